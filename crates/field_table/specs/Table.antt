@@ -1,0 +1,18 @@
+-- A table of one value for each field.
+use Rattle.std.specs.Prelude.{List, map, slice_index_or, false}
+use Rattle.field_table.specs.declared.field.Field.{Field}
+use Rattle.field_table.specs.declared.value.Value.{Value}
+use Rattle.field_table.specs.declared.value.Value.TheVariants.{Flag}
+use Rattle.field_table.specs.Field.{fields, number, initial}
+
+-- the values by the fields' numbers
+abbrev pub Table : Type 0
+Table = List Value
+
+-- the value of a field
+abbrev pub value_in : Table → Field → Value
+value_in t f = slice_index_or t (number f) (Flag false)
+
+-- the table of a new context
+abbrev pub initial_table : Table
+initial_table = map initial fields

@@ -1,0 +1,12 @@
+-- Sets of processes.
+use Rattle.std.specs.Prelude.{ℕ, ◌^◌, ◌==◌, Bool, bit_or}
+use Rattle.std.specs.Int.{bit_at}
+use Rattle.fission_ids.specs.declared.process.ProcSet.{ProcSet}
+
+-- whether process p is in the set
+abbrev pub has : ProcSet → ℕ → Bool
+has s p = bit_at s.0 p == 1
+
+-- the set with process p in it
+abbrev pub with : ProcSet → ℕ → ProcSet
+with s p = record { 0 = bit_or s.0 (2 ^ p) }

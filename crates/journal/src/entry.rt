@@ -1,0 +1,29 @@
+use fission_ids::{Duplicate, OutOfMemory, ProcId};
+use wire_msgs::{Answer, ParentAction};
+
+/// One event of one actor.
+#[derive(Debug, Drop)]
+pub enum Step {
+    /// The parent acts.
+    ParentAct { action: ParentAction },
+    /// Process p takes the first bundle that waits for it.
+    Take { p: ProcId },
+}
+
+impl Duplicate for Step {
+    fn copy(&self) -> Result<Step, OutOfMemory> {
+        match self {
+            Step::ParentAct { action } => Ok(Step::ParentAct {
+                action: action.copy()?,
+            }),
+            Step::Take { p } => Ok(Step::Take { p: *p }),
+        }
+    }
+}
+
+/// A step, and what it came to.
+#[derive(Debug, Drop)]
+pub struct Entry {
+    pub step: Step,
+    pub answer: Answer,
+}

@@ -1,0 +1,24 @@
+-- Changes of fields that are committed as one.
+use Rattle.std.specs.Prelude.{List, [], ◌∷◌, Option, None, map, slice_index_or, unwrap_or}
+use Rattle.field_table.specs.declared.field.Field.{Field}
+use Rattle.field_table.specs.declared.value.Value.{Value}
+use Rattle.field_table.specs.Field.{fields, number}
+use Rattle.field_table.specs.Table.{Table}
+
+-- the new value of each field that is modified, by the fields' numbers
+abbrev pub Changes : Type 0
+Changes = List (Option Value)
+
+-- no field is modified
+abbrev pub nothing : Changes
+nothing = map (λ _. None) fields
+
+-- the new value of a field, if it is modified
+abbrev pub written : Changes → Field → Option Value
+written t f = slice_index_or t (number f) None
+
+-- the table with the new values in it
+abbrev pub merged : Changes → Table → Table
+merged [] values = values
+merged (c ∷ cs) [] = []
+merged (c ∷ cs) (v ∷ values) = unwrap_or c v ∷ merged cs values

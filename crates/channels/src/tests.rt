@@ -1,0 +1,17 @@
+use super::*;
+use std::test::Fail;
+
+#[test]
+fn items_keep_their_order(rt: HostRuntime) -> Result<(), Fail> {
+    let mut link = Link::new(rt.alloc());
+    assert!(rt; link.is_empty());
+    link.send(1)?;
+    link.send(2)?;
+    assert_eq!(rt; link.len(), 2);
+    assert_eq!(rt; link.take(), Some(1));
+    link.send(3)?;
+    assert_eq!(rt; link.take(), Some(2));
+    assert_eq!(rt; link.take(), Some(3));
+    assert_eq!(rt; link.take(), None);
+    Ok(())
+}

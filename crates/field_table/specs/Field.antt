@@ -1,5 +1,5 @@
 -- The synced fields: the number, the name and the initial value of each.
-use Rattle.std.specs.Prelude.{ℕ, List, [], ◌∷◌, Bool, true, false, Option, None, Some, codes, find}
+use Rattle.std.specs.Prelude.{ℕ, List, [], ◌∷◌, true, false, Option, codes, find}
 use Rattle.std.specs.Str.{bytes_eq}
 use Rattle.field_table.specs.declared.field.Field.{Field}
 use Rattle.field_table.specs.declared.field.Field.TheVariants.{Closed, Muted, AllowContentRetargeting, IsInBFCache, Loading}

@@ -62,7 +62,9 @@ impl Field {
     {
         match self {
             Field::AllowContentRetargeting => Value::Flag(true),
-            Field::Closed | Field::Muted | Field::IsInBFCache | Field::Loading => Value::Flag(false),
+            Field::Closed | Field::Muted | Field::IsInBFCache | Field::Loading => Value::Flag(
+                false,
+            ),
         }
     }
 }

@@ -9,7 +9,7 @@ fn lists_and_texts(rt: HostRuntime) -> Result<(), Fail> {
     texts.push(Text::of(rt.alloc(), "é")?)?;
     assert_eq!(rt; texts.len(), 2);
     let copies = texts.copy()?;
-    let mut words = vec![in rt.alloc(); ]?;
+    let mut words = vec![in rt.alloc();]?;
     for text in copies.as_slice() {
         words.push(text.as_str())?;
     }

@@ -1,4 +1,5 @@
-ghost use Rattle.std.specs.Prelude.{◌≡◌, [], ◌∷◌, length, reverse, OnErr, OnOk};
+ghost use Rattle.std.specs.Prelude.{◌≡◌, [], ◌∷◌, length, reverse, slice_get, OnErr, OnOk};
+ghost use Rattle.std.specs.Option.{option_copied};
 
 use crate::entry::Entry;
 use fission_ids::{OutOfMemory, Seq};
@@ -36,6 +37,13 @@ impl Journal {
         ensures err { OnErr result (self.new ≡ self.old) }
     {
         self.entries.push(entry)
+    }
+
+    /// The newest entry, or None before any step.
+    pub fn newest(&self) -> Option<&Entry>
+        ensures { option_copied result ≡ slice_get self.now 0 }
+    {
+        self.entries.as_slice().last()
     }
 
     /// The entries, the oldest first.

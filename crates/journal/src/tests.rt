@@ -13,7 +13,10 @@ fn entries_stand_in_order(rt: HostRuntime) -> Result<(), Fail> {
             answer: Answer::Refused(Refusal::Empty),
         })?;
     }
-    let mut takers = vec![in rt.alloc(); ]?;
+    assert!(rt;
+        journal.newest().is_some_and(|entry| matches!(&entry.step, Step::Take { p } if p.0 == 2))
+    );
+    let mut takers = vec![in rt.alloc();]?;
     for entry in journal.entries() {
         match &entry.step {
             Step::Take { p } => takers.push(p.0)?,

@@ -1,5 +1,5 @@
 -- Merging new values into a table, one after the other.
-use Rattle.std.proofs.Common.{◌≡◌, ℕ, zero, suc, ◌+◌, List, [], ◌∷◌, take, get_or, set, Option, None, Some, unwrap_or, refl, sym, ap, ◌∙◌, ◌<◌, add-one, drop, arith}
+use Rattle.std.proofs.Common.{◌≡◌, ℕ, zero, suc, ◌+◌, [], ◌∷◌, take, get_or, set, Option, None, Some, unwrap_or, refl, sym, ap, ◌∙◌, ◌<◌, add-one, drop, arith}
 use Rattle.std.proofs.lemmas.List.{get_or-drop, drop-set-lt}
 use Rattle.std.proofs.lemmas.Grind.{drop_more_same}
 use Rattle.field_table.specs.Field.{fields, number}

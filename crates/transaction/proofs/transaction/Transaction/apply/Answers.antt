@@ -1,4 +1,4 @@
-use Rattle.std.proofs.Common.{◌≡◌, ℕ, List, Option, Some, None, get_or, set, sym, ap, ◌∙◌}
+use Rattle.std.proofs.Common.{◌≡◌, ℕ, Option, Some, None, get_or, set, sym, ap, ◌∙◌}
 use Rattle.field_table.specs.Table.{Table}
 use Rattle.field_table.specs.declared.value.Value.{Value}
 use Rattle.transaction.proofs.Merging.{put_at, merged_more, still_left, number-at}
@@ -12,9 +12,9 @@ loop-f-preserved c =
     let fields = c.loop-f.fields in
     let at : n ≡ i = c.number.ensures ∙ number-at i _ c.loop-f-test.true in
     let put_is : (o : Option Value) (new : Table) → c.take.result ≡ o → new ≡ put_at o n fields → new ≡ put_at (get_or c.loop-f.values n None) n fields =
-        λ o new h e. e ∙ ap (λ (x : Option Value). put_at x n fields) (sym h ∙ c.take.ensures.value) in
+    λ o new h e. e ∙ ap (λ (x : Option Value). put_at x n fields) (sym h ∙ c.take.ensures.value) in
     let done : (new : Table) → new ≡ put_at (get_or c.loop-f.values n None) n fields → new ≡ _ =
-        λ new put. merged_more i n _ c.loop-f.values _ fields new at c.loop-f.invariant.rest c.loop-f.invariant.done put in
+    λ new put. merged_more i n _ c.loop-f.values _ fields new at c.loop-f.invariant.rest c.loop-f.invariant.done put in
     record {
       done = elim c.match-take.branch [
         | in-Some w ↦ done _ (put_is (Some w.in-Some.v) _ w.in-Some.is (w.fields-is ∙ w.put.ensures ∙ ap (λ (k : ℕ). set fields k w.in-Some.v) (sym c.number.ensures)))

@@ -1,0 +1,6 @@
+-- A call that was interrupted took nothing.
+use Rattle.std.specs.Io.KnownBytes.{Keeps}
+use Rattle.edge.proofs.standard.read_some.Given as goal
+
+abbrev pub invariant-loop : goal.invariant-loop
+invariant-loop g l = Keeps (g.R.Read.remaining l.fn.inner) (g.R.Read.remaining l.inner)

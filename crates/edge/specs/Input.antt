@@ -1,0 +1,17 @@
+-- What reading a source to its end came to.
+use Rattle.std.specs.Prelude.{◌≡◌, ℕ, ◌+◌, ◌≤◌, List, length}
+use Rattle.std.specs.declared.option.Option.{Option}
+use Rattle.std.specs.Io.KnownBytes.{Consumes, IsAtEnd}
+use Rattle.edge.specs.declared.input.Input.{Input}
+use Rattle.edge.specs.declared.input.Input.TheVariants.{Whole, TooLarge, Failed, OutOfMemory}
+
+-- bytes were read that P holds of
+abbrev pub ReadSome : Option (List ℕ) → Option (List ℕ) → (ℕ → Type 0) → Type 0
+ReadSome old new P = (bs : List ℕ) × P (length bs) × Consumes old new bs
+
+-- more than the limit was read exactly where the answer is TooLarge
+abbrev pub HasRead : Option (List ℕ) → Option (List ℕ) → ℕ → Input → Type 0
+HasRead old new limit (Whole v) = (length v.items ≤ limit) × Consumes old new v.items × IsAtEnd new
+HasRead old new limit TooLarge = ReadSome old new (λ count. count ≡ limit + 1)
+HasRead old new limit Failed = ReadSome old new (λ count. count ≤ limit)
+HasRead old new limit OutOfMemory = ReadSome old new (λ count. count ≤ limit)

@@ -1,0 +1,4 @@
+pub mod Pieces
+pub mod Report
+pub mod Played
+pub mod Status

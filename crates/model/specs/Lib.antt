@@ -1,0 +1,6 @@
+pub mod Journal
+pub mod Values
+pub mod Links
+pub mod View
+pub mod Next
+pub mod Laws

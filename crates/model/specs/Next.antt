@@ -1,0 +1,48 @@
+-- What a step comes to after a journal, and so which journals there are.
+use Rattle.std.specs.Prelude.{◌≡◌, List, [], ◌∷◌, map, filter, is_some, ⊤, if◌then◌else◌}
+use Rattle.field_table.specs.Field.{fields}
+use Rattle.transaction.specs.Transaction.{Changes, written}
+use Rattle.wire_msgs.specs.declared.action.ParentAction.TheVariants as actions
+use Rattle.wire_msgs.specs.declared.answer.Answer.{Answer}
+use Rattle.wire_msgs.specs.declared.answer.Answer.TheVariants.{Done, Parts, Refused}
+use Rattle.wire_msgs.specs.declared.answer.FieldNote.{FieldNote}
+use Rattle.wire_msgs.specs.declared.answer.FieldMark.TheVariants.{Applied}
+use Rattle.wire_msgs.specs.declared.answer.PartNote.TheVariants.{Commit}
+use Rattle.wire_msgs.specs.declared.answer.Refusal.TheVariants.{NoContext, Empty}
+use Rattle.wire_msgs.specs.declared.config.Config.{Config}
+use Rattle.journal.specs.declared.entry.Step.{Step}
+use Rattle.journal.specs.declared.entry.Step.TheVariants.{ParentAct, Take}
+use Rattle.model.specs.Journal.{Journal}
+use Rattle.model.specs.Links.{Sent, is_live, waiting}
+
+-- the note of each field that a commit modifies, by the fields' numbers
+abbrev pub notes_of : Changes → List FieldNote
+notes_of t = map (λ f. record { field = f; mark = Applied }) (filter (λ f. is_some (written t f)) fields)
+
+-- what a take comes to where this waits
+abbrev pub take_answer : List Sent → Answer
+take_answer [] = Refused Empty
+take_answer (s ∷ ss) = Parts (Commit (notes_of s.commit) ∷ [])
+
+-- what a step comes to after a journal
+abbrev pub answer_of : Config → Journal → Step → Answer
+answer_of c j (ParentAct (actions.Set t)) = if is_live c.tabs then Done else Refused NoContext
+answer_of c j (Take p) = take_answer (waiting c p.0 j)
+
+-- each entry has the answer of its step after the entries before it
+unfoldable pub Lawful : Config → Journal → Type 0
+Lawful c [] = ⊤
+Lawful c (e ∷ older) = (e.answer ≡ answer_of c older e.step) × Lawful c older
+
+-- a configuration, and what was done under it
+pub record Run : Type 0 where
+  pub config : Config
+  pub journal : Journal
+
+-- nothing was done yet
+abbrev pub started : Config → Run
+started c = record { config = c; journal = [] }
+
+-- one step more was done
+abbrev pub stepped : Run → Step → Run
+stepped r s = record { config = r.config; journal = record { step = s; answer = answer_of r.config r.journal s } ∷ r.journal }

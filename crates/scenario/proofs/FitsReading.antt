@@ -1,0 +1,190 @@
+-- What holds of each scenario that is read.
+use Rattle.std.proofs.Common.{◌≡◌, ℕ, suc, ◌+◌, ◌<◌, ◌≤◌, Bool, true, false, ◌&&◌, cond, ltb, leb, nat_eq, lit≤, List, [], ◌∷◌, length, Option, Result, Ok, Err, refl, ap, subst, arith}
+use Rattle.std.specs.Prelude.{IfOk, codes, option_and_then}
+use Rattle.std.specs.List.{AllByRecursion}
+use Rattle.std.proofs.lemmas.Bool.{ltb-true, leb-true}
+use Rattle.serde_json.specs.Data.{Data, Items, no_items, item}
+use Rattle.serde_json.specs.Events.{items_len}
+use Rattle.serde_json.specs.Find.{get, as_array}
+use Rattle.fission_ids.specs.declared.process.ProcId.{ProcId}
+use Rattle.field_table.specs.declared.field.Field.{Field}
+use Rattle.transaction.specs.Transaction.{Changes}
+use Rattle.wire_msgs.specs.declared.action.ParentAction.TheVariants as actions
+use Rattle.wire_msgs.specs.declared.config.StartTab.{StartTab}
+use Rattle.journal.specs.declared.entry.Step.TheVariants as steps
+use Rattle.scenario.specs.declared.fault.ReadFault.{ReadFault}
+use Rattle.scenario.specs.declared.fault.ReadFault.TheVariants.{Shape}
+use Rattle.scenario.specs.declared.line.Actor.{Actor}
+use Rattle.scenario.specs.declared.line.Actor.TheVariants as actors
+use Rattle.scenario.specs.declared.line.Show.TheVariants as shows
+use Rattle.scenario.specs.declared.line.Line.{Line}
+use Rattle.scenario.specs.declared.line.Line.TheVariants as lines
+use Rattle.scenario.specs.declared.line.Scenario.{Scenario}
+use Rattle.scenario.specs.Gives.{◌>>=◌, asks, or_shape, Gives}
+use Rattle.scenario.specs.Members.{top_keys, set_keys, take_keys, show_keys, is_among, has_only, is_text, number_in}
+use Rattle.scenario.specs.Reading.{type_of, types_of, processes_of, process_of, items_in, tab_of, tabs_of, context_name, transaction_of, set_of, take_of, actor_of, field_of, show_of, line_of, lines_of, with_types, scenario_of, or_unread, data_of, reading}
+use Rattle.scenario.specs.Fits.{ActorFits, LineFits, Fits}
+
+-- the value of a step that did not fail
+bind_ok : {A B : Type 0} (r : Result A ReadFault) (f : A → Result B ReadFault) (y : B) → (r >>= f) ≡ Ok y → (x : A) × (r ≡ Ok x) × (f x ≡ Ok y)
+bind_ok (Ok x) f y e = (x, refl, e)
+bind_ok (Err fault) f y e = absurd cc
+
+-- a test that did not fail
+asks_ok : {A : Type 0} (place : ℕ) (b : Bool) (rest : Result A ReadFault) (y : A) → asks place b rest ≡ Ok y → (b ≡ true) × (rest ≡ Ok y)
+asks_ok place true rest y e = (refl, e)
+asks_ok place false rest y e = absurd cc
+
+abbrev done : {A : Type 0} → A → Result A ReadFault
+done x = Ok x
+
+ok_is : {A : Type 0} (x y : A) → done x ≡ done y → x ≡ y
+ok_is x y e = cc
+
+second_true : (a b : Bool) → (a && b) ≡ true → b ≡ true
+second_true true b e = e
+second_true false b e = absurd cc
+
+-- one of two ways
+either : {A : Type 0} (P : A → Type 0) (b : Bool) (r s : Result A ReadFault) (y : A) → (r ≡ Ok y → P y) → (s ≡ Ok y → P y) → cond b r s ≡ Ok y → P y
+either P true r s y first second e = first e
+either P false r s y first second e = second e
+
+-- ---- processes and tabs
+
+types_len : (ds : Items) (ts : List (List ℕ)) → types_of ds ≡ Ok ts → length ts ≡ items_len ds
+unfolding types_of
+types_len no_items ts e = subst (λ (y : List (List ℕ)). length y ≡ 0) (ok_is [] ts e) refl
+types_len (item d ds) ts e =
+    let a = bind_ok (type_of d) (λ t. types_of ds >>= λ more. Ok (t ∷ more)) ts e in
+    let b = bind_ok (types_of ds) (λ more. Ok (a.0 ∷ more)) ts a.2 in
+    subst (λ (y : List (List ℕ)). length y ≡ suc (items_len ds)) (ok_is (a.0 ∷ b.0) ts b.2) (ap suc (types_len ds b.0 b.1))
+
+few_processes : (found : Option Data) (ts : List (List ℕ)) → processes_of found ≡ Ok ts → length ts ≤ 16
+unfolding processes_of
+few_processes found ts e =
+    let a = bind_ok (or_shape 0 (option_and_then as_array found)) (λ ds. asks 0 (ltb 0 (items_len ds) && leb (items_len ds) 16) (types_of ds)) ts e in
+    let b = asks_ok 0 (ltb 0 (items_len a.0) && leb (items_len a.0) 16) (types_of a.0) ts a.2 in
+    omega (arith, types_len a.0 ts b.1, leb-true (items_len a.0) 16 (second_true (ltb 0 (items_len a.0)) (leb (items_len a.0) 16) b.0))
+
+process_below : (place n : ℕ) (found : Option Data) (p : ProcId) → process_of place n found ≡ Ok p → p.0 < n
+unfolding process_of
+process_below place n found p e =
+    let a = bind_ok (or_shape place (number_in found)) (λ q. asks place (ltb q n) (Ok (record { 0 = q }))) p e in
+    let b = asks_ok place (ltb a.0 n) (Ok (record { 0 = a.0 })) p a.2 in
+    subst (λ (q : ProcId). q.0 < n) (ok_is (record { 0 = a.0 }) p b.1) (ltb-true a.0 n b.0)
+
+tabs_len : (place n : ℕ) (ds : Items) (ts : List StartTab) → tabs_of place n ds ≡ Ok ts → length ts ≡ items_len ds
+unfolding tabs_of
+tabs_len place n no_items ts e = subst (λ (y : List StartTab). length y ≡ 0) (ok_is [] ts e) refl
+tabs_len place n (item d ds) ts e =
+    let a = bind_ok (tab_of place n d) (λ t. tabs_of (place + 1) n ds >>= λ more. Ok (t ∷ more)) ts e in
+    let b = bind_ok (tabs_of (place + 1) n ds) (λ more. Ok (a.0 ∷ more)) ts a.2 in
+    subst (λ (y : List StartTab). length y ≡ suc (items_len ds)) (ok_is (a.0 ∷ b.0) ts b.2) (ap suc (tabs_len (place + 1) n ds b.0 b.1))
+
+-- ---- steps
+
+set_fits : (place n : ℕ) (d : Data) (l : Line) → set_of place d ≡ Ok l → LineFits n l
+unfolding set_of
+set_fits place n d l e =
+    let set : Changes → Line = λ t. lines.Step (steps.ParentAct (actions.Set t)) in
+    let read = transaction_of place (get (codes "fields") d) >>= λ t. Ok (set t) in
+    let named = asks place (is_text context_name (get (codes "context") d)) read in
+    let a = asks_ok place (has_only (is_among set_keys) d) (asks place (is_text (codes "parent") (get (codes "at") d)) named) l e in
+    let b = asks_ok place (is_text (codes "parent") (get (codes "at") d)) named l a.1 in
+    let c = asks_ok place (is_text context_name (get (codes "context") d)) read l b.1 in
+    let t = bind_ok (transaction_of place (get (codes "fields") d)) (λ t. Ok (set t)) l c.1 in
+    subst (λ (y : Line). LineFits n y) (ok_is (set t.0) l t.2) tt
+
+take_fits : (place n : ℕ) (d : Data) (l : Line) → take_of place n d ≡ Ok l → LineFits n l
+unfolding take_of
+take_fits place n d l e =
+    let at = get (codes "at") d in
+    let a = asks_ok place (has_only (is_among take_keys) d) (process_of place n at >>= λ p. Ok (lines.Step (steps.Take p))) l e in
+    let p = bind_ok (process_of place n at) (λ p. Ok (lines.Step (steps.Take p))) l a.1 in
+    subst (λ (y : Line). LineFits n y) (ok_is (lines.Step (steps.Take p.0)) l p.2) (process_below place n at p.0 p.1)
+
+actor_fits : (place n : ℕ) (found : Option Data) (who : Actor) → actor_of place n found ≡ Ok who → ActorFits n who
+unfolding actor_of
+actor_fits place n found who e =
+    let read = process_of place n found >>= λ p. Ok (actors.Process p) in
+    let second : read ≡ Ok who → ActorFits n who = λ h.
+    let p = bind_ok (process_of place n found) (λ p. Ok (actors.Process p)) who h in
+    subst (λ (y : Actor). ActorFits n y) (ok_is (actors.Process p.0) who p.2) (process_below place n found p.0 p.1) in
+    either (ActorFits n) (is_text (codes "parent") found) (Ok actors.Parent) read who (λ h. subst (λ (y : Actor). ActorFits n y) (ok_is actors.Parent who h) tt) second e
+
+show_fits : (place n : ℕ) (d : Data) (l : Line) → show_of place n d ≡ Ok l → LineFits n l
+unfolding show_of
+show_fits place n d l e =
+    let at = get (codes "at") d in
+    let show : Actor → Field → Line = λ who f. lines.Show (shows.One who f) in
+    let named : Actor → Result Line ReadFault = λ who. field_of place (get (codes "field") d) >>= λ f. Ok (show who f) in
+    let test = is_text context_name (get (codes "context") d) in
+    let a = asks_ok place (has_only (is_among show_keys) d) (actor_of place n at >>= λ who. asks place test (named who)) l e in
+    let who = bind_ok (actor_of place n at) (λ who. asks place test (named who)) l a.1 in
+    let b = asks_ok place test (named who.0) l who.2 in
+    let f = bind_ok (field_of place (get (codes "field") d)) (λ f. Ok (show who.0 f)) l b.1 in
+    subst (λ (y : Line). LineFits n y) (ok_is (show who.0 f.0) l f.2) (actor_fits place n at who.0 who.1)
+
+line_fits : (place n : ℕ) (d : Data) (l : Line) → line_of place n d ≡ Ok l → LineFits n l
+unfolding line_of
+line_fits place n d l e =
+    let does = get (codes "do") d in
+    let third = cond (is_text (codes "show") does) (show_of place n d) (Err (Shape place)) in
+    let second = cond (is_text (codes "take") does) (take_of place n d) third in
+    let none : Err (Shape place) ≡ Ok l → LineFits n l = λ h. absurd cc in
+    let shown : third ≡ Ok l → LineFits n l = either (LineFits n) (is_text (codes "show") does) (show_of place n d) (Err (Shape place)) l (show_fits place n d l) none in
+    let taken : second ≡ Ok l → LineFits n l = either (LineFits n) (is_text (codes "take") does) (take_of place n d) third l (take_fits place n d l) shown in
+    either (LineFits n) (is_text (codes "set") does) (set_of place d) second l (set_fits place n d l) taken e
+
+-- the steps from a place on
+record LinesFit (place n : ℕ) (ls : List Line) : Type 0 where
+  all : AllByRecursion (LineFits n) ls
+  few : length ls + place ≤ 20001
+
+lines_fit : (place n : ℕ) (ds : Items) (ls : List Line) → place ≤ 20001 → lines_of place n ds ≡ Ok ls → LinesFit place n ls
+unfolding lines_of
+lines_fit place n no_items ls within e = subst (λ (y : List Line). LinesFit place n y) (ok_is [] ls e) (record { all = tt; few = omega arith })
+lines_fit place n (item d ds) ls within e =
+    let more : Line → Result (List Line) ReadFault = λ l. lines_of (place + 1) n ds >>= λ ls. Ok (l ∷ ls) in
+    let a = asks_ok 20001 (leb place 20000) (line_of place n d >>= more) ls e in
+    let b = bind_ok (line_of place n d) more ls a.1 in
+    let c = bind_ok (lines_of (place + 1) n ds) (λ more. Ok (b.0 ∷ more)) ls b.2 in
+    let room : place ≤ 20000 = leb-true place 20000 a.0 in
+    let rest = lines_fit (place + 1) n ds c.0 (omega arith) c.1 in
+    subst (λ (y : List Line). LinesFit place n y) (ok_is (b.0 ∷ c.0) ls c.2) (record { all = (line_fits place n d b.0 b.1, rest.all); few = omega (arith, rest.few) })
+
+-- ---- the whole
+
+with_types_fits : (types : List (List ℕ)) (tabs steps : Items) (s : Scenario) → length types ≤ 16 → items_len tabs ≤ 1 → with_types types tabs steps ≡ Ok s → Fits s
+with_types_fits types tabs steps s few one e =
+    let made : List StartTab → List Line → Scenario = λ ts ls. record { config = record { types = types; tabs = ts }; lines = ls } in
+    let a = bind_ok (tabs_of 100001 (length types) tabs) (λ ts. lines_of 1 (length types) steps >>= λ ls. Ok (made ts ls)) s e in
+    let b = bind_ok (lines_of 1 (length types) steps) (λ ls. Ok (made a.0 ls)) s a.2 in
+    let fit = lines_fit 1 (length types) steps b.0 (lit≤ tt) b.1 in
+    subst (λ (y : Scenario). Fits y) (ok_is (made a.0 b.0) s b.2) (record {
+      processes = few;
+      tabs = omega (arith, tabs_len 100001 (length types) tabs a.0 a.1);
+      steps = omega (arith, fit.few);
+      lines = fit.all;
+    })
+
+scenario_fits : (d : Data) (s : Scenario) → scenario_of d ≡ Ok s → Fits s
+unfolding scenario_of
+scenario_fits d s e =
+    let rest : List (List ℕ) → Items → Result Scenario ReadFault = λ types tabs. or_shape 0 (option_and_then as_array (get (codes "steps") d)) >>= λ steps. with_types types tabs steps in
+    let listed : List (List ℕ) → Result Scenario ReadFault = λ types. items_in 0 (get (codes "tabs") d) >>= λ tabs. asks 0 (leb (items_len tabs) 1) (rest types tabs) in
+    let begun = processes_of (get (codes "processes") d) >>= listed in
+    let versioned = or_shape 0 (number_in (get (codes "version") d)) >>= λ version. asks 0 (nat_eq version 1) begun in
+    let a = asks_ok 0 (has_only (is_among top_keys) d) versioned s e in
+    let version = bind_ok (or_shape 0 (number_in (get (codes "version") d))) (λ version. asks 0 (nat_eq version 1) begun) s a.1 in
+    let b = asks_ok 0 (nat_eq version.0 1) begun s version.2 in
+    let types = bind_ok (processes_of (get (codes "processes") d)) listed s b.1 in
+    let tabs = bind_ok (items_in 0 (get (codes "tabs") d)) (λ tabs. asks 0 (leb (items_len tabs) 1) (rest types.0 tabs)) s types.2 in
+    let few = asks_ok 0 (leb (items_len tabs.0) 1) (rest types.0 tabs.0) s tabs.2 in
+    let steps = bind_ok (or_shape 0 (option_and_then as_array (get (codes "steps") d))) (λ steps. with_types types.0 tabs.0 steps) s few.1 in
+    with_types_fits types.0 tabs.0 steps.0 s (few_processes (get (codes "processes") d) types.0 types.1) (leb-true (items_len tabs.0) 1 few.0) steps.2
+
+pub reading_fits : (bytes : List ℕ) (r : Result Scenario ReadFault) → Gives r (reading bytes) → IfOk r Fits
+reading_fits bytes (Ok s) given = let a = bind_ok (or_unread (data_of bytes)) scenario_of s given in scenario_fits a.0 s a.2
+reading_fits bytes (Err fault) given = tt

@@ -1,0 +1,5 @@
+pub mod Changes
+pub mod FitsReading
+pub mod Keys
+pub mod Loop
+pub mod Turns

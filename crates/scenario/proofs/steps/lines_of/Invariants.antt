@@ -1,0 +1,11 @@
+use Rattle.std.proofs.Common.{◌≡◌, ◌+◌, drop}
+use Rattle.serde_json.specs.View.{items_view}
+use Rattle.scenario.specs.Reading.{lines_of}
+use Rattle.scenario.proofs.Loop.{with_front}
+use Rattle.scenario.proofs.steps.lines_of.Given as goal
+
+abbrev pub invariant-loop-v : goal.invariant-loop-v
+invariant-loop-v l = record {
+  so_far : with_front l.lines (lines_of l.place l.count (items_view (drop l.v-index l.values))) ≡ lines_of 1 l.count (items_view l.values);
+  place : l.place ≡ l.v-index + 1;
+}

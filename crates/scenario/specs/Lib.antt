@@ -1,0 +1,4 @@
+pub mod Gives
+pub mod Members
+pub mod Reading
+pub mod Fits

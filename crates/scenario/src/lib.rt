@@ -1,0 +1,26 @@
+//! A scenario: how a run begins, and what is done and shown in it, read from JSON.
+//! What a byte string reads as is a function of the bytes, and a fault tells the first place where it's wrong.
+//! Nothing here plays a scenario.
+#![tactic(auto)]
+
+mod fault;
+mod line;
+mod members;
+mod processes;
+mod reading;
+mod steps;
+
+pub use fault::ReadFault;
+pub use line::{Actor, Line, Scenario, Show};
+pub use reading::read;
+
+#[cfg(test)]
+mod tests;
+
+fn crosses<T: Send + Sync>() {}
+
+// The types of this crate may go to another thread, and be shared.
+fn types_cross() {
+    crosses::<Scenario>();
+    crosses::<ReadFault>();
+}

@@ -1,0 +1,84 @@
+ghost use Rattle.std.specs.Prelude.{◌≡◌, Bool, string_bytes};
+ghost use Rattle.std.specs.List.{list_all};
+ghost use Rattle.std.specs.BTreeMap.{keys};
+ghost use Rattle.serde_json.specs.View.{view};
+ghost use Rattle.field_table.specs.Field.{name};
+ghost use Rattle.scenario.specs.Members.{allows, has_only, has_member, is_field_name, is_text, number_in, seen};
+
+use field_table::Field;
+use serde_json::{Map, Value};
+
+/// An object of a scenario, by the keys that it may have.
+#[derive(Clone, Copy)]
+pub enum Kind {
+    Top,
+    Tab,
+    Set,
+    Take,
+    Show,
+    /// The fields that a step sets.
+    Fields,
+}
+
+/// Whether the value is an object and has no key that its kind doesn't name.
+pub fn has_only(v: &Value, kind: Kind) -> bool
+    ensures { result ≡ has_only (allows kind) (view v.now) }
+{
+    match v.as_object() {
+        None => false,
+        Some(members) => all_allowed(kind, members),
+    }
+}
+
+fn all_allowed(kind: Kind, members: &Map<String, Value>) -> bool
+    ensures { result ≡ list_all (λ k. allows kind (string_bytes k)) (keys members.now) }
+{
+    members.keys().all(|key| allows(kind, key.as_str()))
+}
+
+#[tactic(auto, unfolding(crate::specs::Members::top_keys, crate::specs::Members::tab_keys, crate::specs::Members::set_keys, crate::specs::Members::take_keys, crate::specs::Members::show_keys))]
+fn allows(kind: Kind, key: &str) -> bool
+    ensures { result ≡ allows kind key.now }
+{
+    match kind {
+        Kind::Top => key == "version" || key == "processes" || key == "tabs" || key == "steps",
+        Kind::Tab => key == "owner" || key == "also",
+        Kind::Set => key == "do" || key == "at" || key == "context" || key == "fields",
+        Kind::Take => key == "do" || key == "at",
+        Kind::Show => key == "do" || key == "at" || key == "context" || key == "field",
+        Kind::Fields => is_field_name(key),
+    }
+}
+
+fn is_field_name(key: &str) -> bool
+    ensures { result ≡ is_field_name key.now }
+{
+    Field::ALL.iter().any(|f| key == f.name())
+}
+
+/// Whether the value is an object with a member.
+pub fn has_member(v: &Value) -> bool
+    ensures { result ≡ has_member (view v.now) }
+{
+    match v.as_object() {
+        None => false,
+        Some(members) => !members.is_empty(),
+    }
+}
+
+/// Whether a member is there and is this text.
+pub fn is_text(found: Option<&Value>, text: &str) -> bool
+    ensures { result ≡ is_text text.now (seen found.entry) }
+{
+    match found.and_then(Value::as_str) {
+        None => false,
+        Some(s) => s == text,
+    }
+}
+
+/// The number of a member, if it's a whole one from 0 on, below 2^64.
+pub fn number_in(found: Option<&Value>) -> Option<u64>
+    ensures { result ≡ number_in (seen found.entry) }
+{
+    found.and_then(Value::as_u64)
+}

@@ -1,0 +1,5 @@
+pub mod Lists
+pub mod Merging
+pub mod Orders
+pub mod Moves
+pub mod Standing

@@ -1,4 +1,4 @@
-.PHONY: play test
+.PHONY: play test examples
 
 # Proves the player, builds it, and plays its stored scenario.
 play:
@@ -7,3 +7,9 @@ play:
 # The gate: every proof, every must-fail edit, every test and every program.
 test:
 	.ci/run
+
+# Plays each example with the player that `make play` built, and compares its report.
+examples:
+	for report in examples/*.report; do \
+	    crates/fission_play/out/fission_play play < $${report%.report}.json | cmp - $$report || exit 1; \
+	done

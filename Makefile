@@ -1,4 +1,4 @@
-.PHONY: play test examples
+.PHONY: play test examples refuse-memory
 
 # Proves the player, builds it, and plays its stored scenario.
 play:
@@ -13,3 +13,7 @@ examples:
 	for report in examples/*.report; do \
 	    crates/fission_play/out/fission_play play < $${report%.report}.json | cmp - $$report || exit 1; \
 	done
+
+# Makes each allocation of the stored run fail in turn, in the player that `make play` built.
+refuse-memory:
+	tools/refuse-memory.sh examples/muted.json examples/muted.report

@@ -1,4 +1,4 @@
-ghost use Rattle.std.specs.Prelude.{◌≡◌, ◌==◌, [], ◌∷◌, ◌++◌, length, OnErr, OnOk, MatchOption};
+ghost use Rattle.std.specs.Prelude.{◌≡◌, ◌==◌, [], ◌∷◌, ◌++◌, length, take, OnErr, OnOk, MatchOption};
 
 use fission_ids::OutOfMemory;
 use std::alloc::Global;
@@ -62,5 +62,13 @@ impl<T: Drop> Link<T> {
     {
         self.items.push_back(item)?;
         Ok(())
+    }
+
+    /// Leaves the first `keep` items and drops the others, the last ones sent. Where no more wait, nothing changes.
+    /// The time is linear in what is dropped.
+    pub fn cut(&mut self, keep: usize)
+        ensures { self.new ≡ take keep self.old }
+    {
+        self.items.truncate(keep);
     }
 }

@@ -3,12 +3,16 @@
 #![tactic(auto)]
 
 mod field;
+mod field_set;
 mod fields;
 mod value;
+mod verdict;
 
 pub use field::Field;
+pub use field_set::FieldSet;
 pub use fields::Fields;
-pub use value::Value;
+pub use value::{Value, ValueFault};
+pub use verdict::Verdict;
 
 #[cfg(test)]
 mod tests;
@@ -18,6 +22,9 @@ fn crosses<T: Send + Sync>() {}
 // The types of this crate may go to another thread, and be shared.
 fn types_cross() {
     crosses::<Field>();
+    crosses::<FieldSet>();
     crosses::<Fields>();
     crosses::<Value>();
+    crosses::<ValueFault>();
+    crosses::<Verdict>();
 }

@@ -20,3 +20,38 @@ fn tables(rt: HostRuntime) -> Result<(), Fail> {
     }
     Ok(())
 }
+
+#[test]
+fn sets_of_fields(rt: HostRuntime) -> Result<(), Fail> {
+    let some = FieldSet::EMPTY.with(Field::Closed).with(Field::Muted);
+    let others = FieldSet::EMPTY.with(Field::Muted).with(Field::Loading);
+    let rows = [
+        (Field::Closed, true, true, true, false),
+        (Field::Muted, true, true, false, true),
+        (Field::AllowContentRetargeting, false, false, false, false),
+        (Field::IsInBFCache, false, false, false, false),
+        (Field::Loading, false, true, false, false),
+    ];
+    for (field, in_some, in_either, only_in_some, not_closed) in rows {
+        assert_eq!(rt; some.copy()?.has(field), in_some, "{}", field.name());
+        assert_eq!(rt;
+            some.union(others).has(field),
+            in_either,
+            "{}",
+            field.name()
+        );
+        assert_eq!(rt;
+            some.minus(others).has(field),
+            only_in_some,
+            "{}",
+            field.name()
+        );
+        assert_eq!(rt;
+            some.without(Field::Closed).has(field),
+            not_closed,
+            "{}",
+            field.name()
+        );
+    }
+    Ok(())
+}

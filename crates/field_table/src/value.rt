@@ -14,3 +14,22 @@ impl Duplicate for Value {
         }
     }
 }
+
+/// Why a text of the input holds no value of a field.
+#[derive(Clone, Copy, Debug, PartialEq, Eq)]
+pub enum ValueFault {
+    /// It is of another kind than the field.
+    WrongKind,
+    /// It is a text of more bytes than the field takes.
+    TooLong {
+        /// The text's number of bytes.
+        len: u64,
+    },
+    /// It is a number that the field doesn't take.
+    OutOfRange {
+        /// The number.
+        n: u64,
+    },
+    /// Memory wasn't there.
+    OutOfMemory,
+}

@@ -1,17 +1,36 @@
-//! The small plain types that all other crates speak of: want of memory, equal copies, lists, texts, process numbers.
+//! The small plain types that all other crates speak of: want of memory, equal copies, lists, texts, processes, ids,
+//! epochs, and how a query ends.
 //! A list is seen as a list and a text as its bytes, so that a contract above can say that two values are equal.
-//! Nothing here knows a field, a message or a link.
+//! An id has a text and, but for queries, a number, each of which gives the id back. Nothing here knows a field, a message
+//! or a link.
 #![tactic(auto)]
 
+mod any_id;
+mod context;
+mod epoch;
+mod group;
 mod memory;
+mod numbers;
+mod outcome;
 mod process;
+mod query;
 mod seq;
 mod text;
+mod why;
+mod window;
 
+pub use any_id::AnyId;
+pub use context::ContextId;
+pub use epoch::Epoch;
+pub use group::GroupId;
 pub use memory::{Duplicate, OutOfMemory};
+pub use outcome::Outcome;
 pub use process::{ProcId, ProcSet};
+pub use query::QueryId;
 pub use seq::Seq;
 pub use text::Text;
+pub use why::Why;
+pub use window::WindowId;
 
 #[cfg(test)]
 mod tests;
@@ -24,6 +43,14 @@ fn types_cross() {
     crosses::<Text>();
     crosses::<ProcId>();
     crosses::<ProcSet>();
+    crosses::<GroupId>();
+    crosses::<Epoch>();
+    crosses::<ContextId>();
+    crosses::<WindowId>();
+    crosses::<QueryId>();
+    crosses::<AnyId>();
+    crosses::<Outcome>();
+    crosses::<Why>();
 }
 
 // A list may cross where its items may.

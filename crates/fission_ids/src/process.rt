@@ -1,5 +1,5 @@
 ghost use Rattle.std.specs.Prelude.{◌≡◌, ◌<◌};
-ghost use Rattle.fission_ids.specs.ProcSet.{has, with};
+ghost use Rattle.fission_ids.specs.ProcSet.{AddsOne, RemovesOne, has, with};
 
 use crate::memory::{Duplicate, OutOfMemory};
 
@@ -32,8 +32,17 @@ impl ProcSet {
     /// The set with p in it.
     pub fn with(self, p: ProcId) -> ProcSet
         requires { p.0 < 16 }
-        ensures { result ≡ with self p.0 }
+        ensures value { result ≡ with self p.0 }
+        ensures members { AddsOne self result p.0 }
     {
         ProcSet(self.0 | 1 << p.0)
+    }
+
+    /// The set without p.
+    pub fn without(self, p: ProcId) -> ProcSet
+        requires { p.0 < 16 }
+        ensures { RemovesOne self result p.0 }
+    {
+        ProcSet(self.0 & !(1 << p.0))
     }
 }

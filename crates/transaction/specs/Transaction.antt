@@ -1,8 +1,10 @@
 -- Changes of fields that are committed as one.
-use Rattle.std.specs.Prelude.{List, [], ◌∷◌, Option, None, map, slice_index_or, unwrap_or}
+use Rattle.std.specs.Prelude.{List, [], ◌∷◌, ◌||◌, Option, None, map, slice_index_or, unwrap_or, is_some, if◌then◌else◌}
 use Rattle.field_table.specs.declared.field.Field.{Field}
+use Rattle.field_table.specs.declared.field_set.FieldSet.{FieldSet}
 use Rattle.field_table.specs.declared.value.Value.{Value}
 use Rattle.field_table.specs.Field.{fields, number}
+use Rattle.field_table.specs.FieldSet.{has, set_of}
 use Rattle.field_table.specs.Table.{Table}
 
 -- the new value of each field that is modified, by the fields' numbers
@@ -22,3 +24,15 @@ abbrev pub merged : Changes → Table → Table
 merged [] values = values
 merged (c ∷ cs) [] = []
 merged (c ∷ cs) (v ∷ values) = unwrap_or c v ∷ merged cs values
+
+-- the fields that are modified
+abbrev pub modified_in : Changes → FieldSet
+modified_in t = set_of (λ f. is_some (written t f))
+
+-- what is left where only the fields of the set are kept
+abbrev pub kept : FieldSet → Changes → Changes
+kept s t = map (λ f. if has s f then written t f else None) fields
+
+-- what is left without the fields of two sets
+abbrev pub allowed_by : FieldSet → FieldSet → Changes → Changes
+allowed_by reverted denied t = map (λ f. if has reverted f || has denied f then None else written t f) fields

@@ -4,7 +4,7 @@
 
 mod transaction;
 
-pub use transaction::Transaction;
+pub use transaction::{Split, Transaction};
 
 #[cfg(test)]
 mod tests;
@@ -13,5 +13,6 @@ fn crosses<T: Send + Sync>() {}
 
 // The types of this crate may go to another thread, and be shared.
 fn types_cross() {
+    crosses::<Split>();
     crosses::<Transaction>();
 }

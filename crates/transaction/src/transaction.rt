@@ -1,11 +1,34 @@
-ghost use Rattle.std.specs.Prelude.{◌≡◌, ◌≤◌, Some, length, OnOk, slice_set};
+ghost use Rattle.std.specs.Prelude.{◌≡◌, ◌≤◌, ◌||◌, ◌&&◌, Some, None, false, length, OnOk, IsTrue, IsSome, is_some, slice_set, if◌then◌else◌};
 ghost use Rattle.std.specs.Option.{option_copied};
-ghost use Rattle.field_table.specs.Field.{number};
-ghost use Rattle.transaction.specs.Transaction.{nothing, written, merged};
+ghost use Rattle.field_table.specs.declared.field.Field.{Field};
+ghost use Rattle.field_table.specs.Field.{number, fields};
+ghost use Rattle.field_table.specs.FieldSet.{has};
+ghost use Rattle.transaction.specs.Transaction.{nothing, written, merged, modified_in, kept, allowed_by};
 
-use field_table::{Field, Fields, Value};
+use field_table::{Field, FieldSet, Fields, Value};
 use fission_ids::{Duplicate, OutOfMemory};
 use std::marker::Model;
+
+/// A transaction that was judged: what is taken, and the fields that aren't.
+#[derive(Debug, Drop)]
+pub struct Split {
+    /// The modified fields that are in neither set, with their new values.
+    pub allowed: Transaction,
+    /// The fields whose present values go back.
+    pub reverted: FieldSet,
+    /// The fields that nobody may write so.
+    pub denied: FieldSet,
+}
+
+impl Duplicate for Split {
+    fn copy(&self) -> Result<Split, OutOfMemory> {
+        Ok(Split {
+            allowed: self.allowed.copy()?,
+            reverted: self.reverted,
+            denied: self.denied,
+        })
+    }
+}
 
 /// New values for some fields, committed as one. Seen as a list by the fields' numbers: the new value of each field
 /// that is modified.
@@ -46,6 +69,53 @@ impl Transaction {
         self.values[f.number()].as_ref()
     }
 
+    /// The fields that are modified.
+    pub fn modified(&self) -> FieldSet
+        ensures whole { result ≡ modified_in self.now }
+        ensures members { (f : Field) → has result f ≡ is_some (written self.now f) }
+    {
+        let mut modified = FieldSet::EMPTY;
+        for f in Field::ALL {
+            if self.is_modified(f) {
+                modified = modified.with(f);
+            }
+        }
+        modified
+    }
+
+    // Whether the field is modified.
+    fn is_modified(&self, f: Field) -> bool
+        ensures { result ≡ is_some (written self.now f) }
+    {
+        self.values[f.number()].is_some()
+    }
+
+    /// Leaves what is modified and in the set. The other fields aren't modified any more.
+    pub fn keep(&mut self, s: FieldSet)
+        ensures whole { self.new ≡ kept s self.old }
+        ensures values { (f : Field) → written self.new f ≡ (if has s f then written self.old f else None) }
+    {
+        keep_in(&mut self.values, s);
+    }
+
+    /// Takes the fields of two sets out. The sets are disjoint, and all their fields are modified.
+    pub fn split(self, reverted: FieldSet, denied: FieldSet) -> Split
+        requires disjoint { (f : Field) → (has reverted f && has denied f) ≡ false }
+        requires modified { (f : Field) → IsTrue (has reverted f || has denied f) → IsSome (written self f) }
+        ensures whole { result ≡ record { allowed = allowed_by reverted denied self; reverted = reverted; denied = denied } }
+        ensures values { (f : Field) → written result.allowed f ≡ (if has reverted f || has denied f then None else written self f) }
+        ensures parts { (f : Field) → is_some (written self f) ≡ (is_some (written result.allowed f) || has reverted f || has denied f) }
+    {
+        let left = self.modified().minus(reverted.union(denied));
+        let mut allowed = self;
+        allowed.keep(left);
+        Split {
+            allowed,
+            reverted,
+            denied,
+        }
+    }
+
     /// Gives the modified fields their new values. The others stay.
     pub fn apply(self, fields: &mut Fields)
         ensures { fields.new ≡ merged self fields.old }
@@ -75,4 +145,15 @@ fn copy_into(values: &[Option<Value>], copies: &mut [Option<Value>]) -> Result<(
         copies[i] = values[i].copy()?;
     }
     Ok(())
+}
+
+fn keep_in(values: &mut [Option<Value>], s: FieldSet)
+    requires { length values.old ≡ length fields }
+    ensures { values.new ≡ kept s values.old }
+{
+    for f in Field::ALL {
+        if !s.has(f) {
+            values[f.number()] = None;
+        }
+    }
 }

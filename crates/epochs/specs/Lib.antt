@@ -1,0 +1,2 @@
+pub mod FieldEpochs
+pub mod Heard

@@ -1,0 +1,5 @@
+use Rattle.fission_ids.proofs.Members.{bit_at-with}
+use Rattle.fission_ids.proofs.process.ProcSet.with.Goals as goal
+
+pub returns-clause-members : goal.returns-clause-members
+returns-clause-members c q within = bit_at-with c.args.self.0 c.args.p.0 q c.requires

@@ -1,0 +1,15 @@
+use Rattle.std.proofs.Common.{◌∙◌, ap, Option, None, if◌then◌else◌}
+use Rattle.field_table.specs.declared.field.Field.{Field}
+use Rattle.field_table.specs.declared.value.Value.{Value}
+use Rattle.field_table.specs.FieldSet.{has}
+use Rattle.field_table.proofs.FieldSets.{at_number}
+use Rattle.transaction.specs.Transaction.{Changes, written, kept}
+use Rattle.transaction.proofs.transaction.Transaction.keep.Goals as goal
+
+pub returns-clause-whole : goal.returns-clause-whole
+returns-clause-whole c = c.keep_in.ensures ∙ ap (kept c.args.s) c.self.view_is
+
+pub returns-clause-values : goal.returns-clause-values
+returns-clause-values c f =
+    let h : Field → Option Value = λ g. if has c.args.s g then written c.args.self.now g else None in
+    ap (λ (t : Changes). written t f) (c.keep_in.ensures ∙ ap (kept c.args.s) c.self.view_is) ∙ at_number h None f

@@ -1,10 +1,9 @@
 -- Merging new values into a table, one after the other.
-use Rattle.std.proofs.Common.{◌≡◌, ℕ, zero, suc, ◌+◌, [], ◌∷◌, take, get_or, set, Option, None, Some, unwrap_or, refl, sym, ap, ◌∙◌, ◌<◌, add-one, drop, arith}
+use Rattle.std.proofs.Common.{◌≡◌, ℕ, zero, suc, ◌+◌, [], ◌∷◌, take, get_or, set, Option, None, Some, unwrap_or, refl, sym, ap, ◌∙◌, add-one, drop, arith}
 use Rattle.std.proofs.lemmas.List.{get_or-drop, drop-set-lt}
 use Rattle.std.proofs.lemmas.Grind.{drop_more_same}
-use Rattle.field_table.specs.Field.{fields, number}
+use Rattle.field_table.specs.Field.{fields}
 use Rattle.field_table.specs.Table.{Table}
-use Rattle.field_table.specs.declared.field.Field.{Field}
 use Rattle.field_table.specs.declared.value.Value.{Value}
 use Rattle.transaction.specs.Transaction.{Changes, merged}
 
@@ -32,15 +31,6 @@ merged-take-suc zero (c ∷ cs) [] = sym (nowhere c 0)
 merged-take-suc (suc i) (c ∷ cs) [] = sym (nowhere (get_or cs i None) (suc i))
 merged-take-suc zero (c ∷ cs) (v ∷ t) = first c v t
 merged-take-suc (suc i) (c ∷ cs) (v ∷ t) = ap (λ (x : Table). unwrap_or c v ∷ x) (merged-take-suc i cs t) ∙ below (get_or cs i None) i (unwrap_or c v) (merged (take i cs) t)
-
--- fields stand at their numbers
-pub number-at : (i : ℕ) (d : Field) → i < 5 → number (get_or fields i d) ≡ i
-number-at zero d h = refl
-number-at (suc zero) d h = refl
-number-at (suc (suc zero)) d h = refl
-number-at (suc (suc (suc zero))) d h = refl
-number-at (suc (suc (suc (suc zero)))) d h = refl
-number-at (suc (suc (suc (suc (suc i))))) d h = absurd (omega arith)
 
 same_at : (i : ℕ) (values before : Changes) → drop i values ≡ drop i before → get_or values i None ≡ get_or before i None
 same_at i values before h =

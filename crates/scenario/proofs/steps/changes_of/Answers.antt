@@ -3,7 +3,7 @@ use Rattle.std.proofs.lemmas.Result.{err_from_is_err_and}
 use Rattle.serde_json.specs.View.{view}
 use Rattle.field_table.specs.Field.{fields}
 use Rattle.field_table.specs.declared.value.Value.{Value}
-use Rattle.transaction.proofs.Merging.{number-at}
+use Rattle.field_table.proofs.FieldSets.{number-at}
 use Rattle.scenario.specs.Members.{seen}
 use Rattle.scenario.specs.Reading.{change_of, changes_of}
 use Rattle.scenario.proofs.Loop.{goes_on, ends, is_done}

@@ -1,7 +1,8 @@
 use Rattle.std.proofs.Common.{◌≡◌, ℕ, Option, Some, None, get_or, set, sym, ap, ◌∙◌}
 use Rattle.field_table.specs.Table.{Table}
 use Rattle.field_table.specs.declared.value.Value.{Value}
-use Rattle.transaction.proofs.Merging.{put_at, merged_more, still_left, number-at}
+use Rattle.field_table.proofs.FieldSets.{number-at}
+use Rattle.transaction.proofs.Merging.{put_at, merged_more, still_left}
 use Rattle.transaction.proofs.transaction.Transaction.apply.Goals as goal
 use Rattle.transaction.proofs.transaction.Transaction.apply.Goals.{in-Some, in_default}
 

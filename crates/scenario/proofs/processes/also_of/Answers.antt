@@ -14,7 +14,7 @@ returns-then-not-may_join c = also_asks c.args.place c.args.count c.args.owner c
 pub loop-v-preserved : goal.loop-v-preserved
 loop-v-preserved c =
     let more = also_asks c.args.place c.args.count c.args.owner c.loop-v.also c.args.values.now c.loop-v.v-index c.v-item.result c.in_ok-p.p true _ c.loop-v-test.true c.v-item.is c.in_ok-p.ensures.exact c.if-not-may_join.ensures c.loop-v.invariant in
-    rw c.with-also.ensures (sym more)
+    rw c.with-also.ensures.value (sym more)
 
 pub returns : goal.returns
 returns c = sym c.loop-v.invariant ∙ also_end c.args.place c.args.count c.args.owner c.loop-v.also c.args.values.now c.loop-v.v-index c.loop-v-test.false

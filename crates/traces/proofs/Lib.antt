@@ -1,0 +1,15 @@
+pub mod Runs
+pub mod Waits
+pub mod Numbers
+pub mod Entries
+pub mod Fates
+pub mod Stages
+pub mod Judged
+pub mod Ignored
+pub mod Own
+pub mod Follows
+pub mod Shows
+pub mod Quiet
+pub mod Changed
+pub mod Projection
+pub mod Program

@@ -1,0 +1,9 @@
+pub mod Event
+pub mod Links
+pub mod Field
+pub mod Words
+pub mod Rules
+pub mod Replay
+pub mod Laws
+pub mod Runs
+pub mod Program

@@ -1,0 +1,68 @@
+-- The two links of a process, as lists: what was sent, how much of it was taken, and what waits.
+use Rattle.std.specs.Prelude.{ℕ, ◌+◌, Bool, true, false, List, [], ◌∷◌, ◌++◌, drop}
+use Rattle.traces.specs.Event.{Bundle, Event}
+use Rattle.traces.specs.Event.Event.{Writes, Sends, Takes, Accepts, Reverts, Ignores, Changes, Ends}
+
+-- the own writes, in order; the n-th one has number n
+abbrev pub writes : {W B : Type 0} → List (Event W B) → List W
+writes [] = []
+writes (Writes w ∷ h) = writes h ++ w ∷ []
+writes (_ ∷ h) = writes h
+
+-- the number of the last own write: the process's epoch
+abbrev pub written : {W B : Type 0} → List (Event W B) → ℕ
+written [] = 0
+written (Writes w ∷ h) = written h + 1
+written (_ ∷ h) = written h
+
+-- how many own writes the parent heard: the number that it recorded
+abbrev pub heard : {W B : Type 0} → List (Event W B) → ℕ
+heard [] = 0
+heard (Accepts k w ∷ h) = heard h + 1
+heard (Reverts k w c ∷ h) = heard h + 1
+heard (Ignores k w ∷ h) = heard h + 1
+heard (_ ∷ h) = heard h
+
+-- the own writes that wait to be heard
+abbrev pub writes_waiting : {W B : Type 0} → List (Event W B) → List W
+writes_waiting h = drop (heard h) (writes h)
+
+-- the bundles that the parent sent the process, in order
+abbrev pub sent : {W B : Type 0} → List (Event W B) → List (Bundle B)
+sent [] = []
+sent (Sends k u c ∷ h) = sent h ++ record { entry = k; epoch = heard h; content = c } ∷ []
+sent (Reverts k w c ∷ h) = sent h ++ record { entry = k; epoch = heard h + 1; content = c } ∷ []
+sent (_ ∷ h) = sent h
+
+-- how many bundles the process took
+abbrev pub taken : {W B : Type 0} → List (Event W B) → ℕ
+taken [] = 0
+taken (Takes d ∷ h) = taken h + 1
+taken (_ ∷ h) = taken h
+
+-- the bundles that wait to be taken
+abbrev pub waiting : {W B : Type 0} → List (Event W B) → List (Bundle B)
+waiting h = drop (taken h) (sent h)
+
+-- the last entry that sent the process a bundle, or 0
+abbrev pub last_sent : {W B : Type 0} → List (Event W B) → ℕ
+last_sent [] = 0
+last_sent (Sends k u c ∷ h) = k
+last_sent (Reverts k w c ∷ h) = k
+last_sent (_ ∷ h) = last_sent h
+
+-- the last entry of the parent that the trace tells, or 0
+abbrev pub now : {W B : Type 0} → List (Event W B) → ℕ
+now [] = 0
+now (Sends k u c ∷ h) = k
+now (Accepts k w ∷ h) = k
+now (Reverts k w c ∷ h) = k
+now (Ignores k w ∷ h) = k
+now (Changes k u ∷ h) = k
+now (_ ∷ h) = now h
+
+-- the process was ended
+abbrev pub ended : {W B : Type 0} → List (Event W B) → Bool
+ended [] = false
+ended (Ends ∷ h) = true
+ended (_ ∷ h) = ended h

@@ -1,0 +1,103 @@
+-- The rules that a trace keeps. Each says of one event what must hold of the events before it.
+use Rattle.std.specs.Prelude.{ℕ, ◌≡◌, ◌≤◌, ◌<◌, true, false, Option, None, Some, is_some, List, [], ◌∷◌}
+use Rattle.traces.specs.Event.{Event}
+use Rattle.traces.specs.Event.Event.{Writes, Sends, Takes, Accepts, Reverts, Ignores, Changes}
+use Rattle.traces.specs.Links.{writes_waiting, waiting, last_sent, now, ended}
+use Rattle.traces.specs.Field.{Content, FieldEvent, Trace}
+use Rattle.traces.specs.Field.Content.{Nothing, Gives, Begins, Removes}
+use Rattle.traces.specs.Words.{Start, or_else, value, stage, served}
+use Rattle.traces.specs.Words.Stage.{Coming, Held, Gone}
+
+-- x is the first of xs
+pub record IsFirst {X : Type 0} (x : X) (xs : List X) : Type 0 where
+  pub rest : List X
+  pub is : xs ≡ x ∷ rest
+
+-- a write that is heard waited first, and the process that is sent the answer wasn't ended
+pub record HeardAlive {W B : Type 0} (write : W) (h : List (Event W B)) : Type 0 where
+  pub first : IsFirst write (writes_waiting h)
+  pub alive : ended h ≡ false
+
+-- what is taken or heard is what waited first, and an ended process is sent nothing more
+abbrev pub Flow : {W B : Type 0} → Event W B → List (Event W B) → Type 0
+Flow (Sends k u c) h = ended h ≡ false
+Flow (Takes d) h = IsFirst d (waiting h)
+Flow (Accepts k w) h = IsFirst w (writes_waiting h)
+Flow (Reverts k w c) h = HeardAlive w h
+Flow (Ignores k w) h = IsFirst w (writes_waiting h)
+Flow _ h = Unit {0}
+
+abbrev pub Flows : {W B : Type 0} → List (Event W B) → Type 0
+Flows [] = Unit {0}
+Flows (e ∷ h) = Flow e h × Flows h
+
+-- of a process: the parent's entries come one after the other
+abbrev pub Later : {W B : Type 0} → Event W B → List (Event W B) → Type 0
+Later (Sends k u c) h = now h < k
+Later (Accepts k w) h = now h < k
+Later (Reverts k w c) h = now h < k
+Later (Ignores k w) h = now h < k
+Later (Changes k u) h = now h < k
+Later _ h = Unit {0}
+
+abbrev pub Rises : {W B : Type 0} → List (Event W B) → Type 0
+Rises [] = Unit {0}
+Rises (e ∷ h) = Later e h × Rises h
+
+-- a sent bundle: it is the only one of its entry, and a change that comes with it is later than all before
+pub record SentInOrder {V : Type 0} (entry : ℕ) (change : Option V) (h : Trace V) : Type 0 where
+  pub once : last_sent h < entry
+  pub after : now h ≤ entry
+  pub changes : is_some change ≡ true → now h < entry
+
+-- of a field: one entry may accept an own write and then send a bundle that changes nothing
+abbrev pub Order : {V : Type 0} → FieldEvent V → Trace V → Type 0
+Order (Sends k u c) h = SentInOrder k u h
+Order (Accepts k w) h = now h < k
+Order (Reverts k w c) h = now h < k
+Order (Ignores k w) h = now h < k
+Order (Changes k u) h = now h < k
+Order _ h = Unit {0}
+
+abbrev pub Ordered : {V : Type 0} → Trace V → Type 0
+Ordered [] = Unit {0}
+Ordered (e ∷ h) = Order e h × Ordered h
+
+-- where there is a value
+abbrev pub Where : {V : Type 0} → Option V → Type 0 → Type 0
+Where None P = Unit {0}
+Where (Some v) P = P
+
+-- a bundle gives each change while the parent serves the context, and a change that it doesn't give comes when the
+-- parent does not; a context comes once, with the parent's value
+abbrev pub Tells : {V : Type 0} → Start V → Option V → Content V → Trace V → Type 0
+Tells start u Nothing h = Where u (served start.stage h ≡ Held → ⊥)
+Tells start u (Gives v) h = (u ≡ Some v) × (served start.stage h ≡ Held)
+Tells start u (Begins v) h = (or_else u (value start.initial h) ≡ v) × (served start.stage h ≡ Coming)
+Tells start u Removes h = Unit {0}
+
+-- a revert is of a write to the field, and gives the parent's value back
+pub record GivesBack {V : Type 0} (start : Start V) (write : Option V) (content : Content V) (h : Trace V) : Type 0 where
+  pub of_write : is_some write ≡ true
+  pub back : content ≡ Gives (value start.initial h)
+  pub serves : served start.stage h ≡ Held
+
+-- what an event may hold for the field
+abbrev pub Fit : {V : Type 0} → Start V → FieldEvent V → Trace V → Type 0
+Fit start (Writes w) h = Where w (stage start.stage h ≡ Held)
+Fit start (Sends k u c) h = Tells start u c h
+Fit start (Accepts k w) h = Where w (served start.stage h ≡ Held)
+Fit start (Reverts k w c) h = GivesBack start w c h
+Fit start (Ignores k w) h = Where w (served start.stage h ≡ Gone)
+Fit start (Changes k u) h = Where u (served start.stage h ≡ Held → ⊥)
+Fit start _ h = Unit {0}
+
+abbrev pub Fits : {V : Type 0} → Start V → Trace V → Type 0
+Fits start [] = Unit {0}
+Fits start (e ∷ h) = Fit start e h × Fits start h
+
+-- the trace keeps the rules
+pub record Keeps {V : Type 0} (start : Start V) (h : Trace V) : Type 0 where
+  pub flows : Flows h
+  pub ordered : Ordered h
+  pub fits : Fits start h

@@ -1,3 +1,4 @@
 pub mod Members
+pub mod Named
 pub mod Printed
 pub mod Remade

@@ -1,5 +1,9 @@
 -- Ids: which numbers they have, and how they are written.
-use Rattle.std.specs.Prelude.{◌≡◌, ◌≢◌, ℕ, ◌+◌, ◌*◌, ◌≤◌, List, ◌++◌, length, slice_index, codes, decimal}
+use Rattle.std.specs.Prelude.{◌≡◌, ◌≢◌, ℕ, ◌+◌, ◌*◌, ◌≤◌, ◌==◌, Bool, nat_le, ◌&&◌, if◌then◌else◌, List, ◌++◌, length, drop, slice_index, Option, Some, None, codes, decimal}
+use Rattle.std.specs.List.{before_first, after_first}
+use Rattle.std.specs.Option.{option_map}
+use Rattle.std.specs.Str.{bytes_eq}
+use Rattle.std.specs.Str.Parse.{digits_value}
 use Rattle.fission_ids.specs.declared.group.GroupId.{GroupId}
 use Rattle.fission_ids.specs.declared.context.ContextId.{ContextId}
 use Rattle.fission_ids.specs.declared.window.WindowId.{WindowId}
@@ -50,3 +54,43 @@ context_number x = joined x.creator x.serial
 
 abbrev pub window_number : WindowId → ℕ
 window_number w = joined w.creator w.serial
+
+-- the same as `AreInRange`, as a test
+abbrev pub are_in_range : ℕ → ℕ → Bool
+are_in_range creator serial = nat_le creator 16 && nat_le 1 serial && nat_le serial 4294967295
+
+abbrev pub is_dot : ℕ → Bool
+is_dot b = b == 46
+
+-- the number that the digits between the letter and the first dot give
+abbrev pub creator_in : List ℕ → ℕ
+creator_in text = digits_value 10 (before_first is_dot (drop 1 text))
+
+-- the number that the digits behind the first dot give
+abbrev pub serial_in : List ℕ → ℕ
+serial_in text = digits_value 10 (after_first is_dot (drop 1 text))
+
+-- the two numbers that the digits give, if they are in range and the text is the letter and these numbers
+unfoldable pub numbers_of : List ℕ → List ℕ → Option (ℕ × ℕ)
+numbers_of letter text =
+    let creator = creator_in text in
+    let serial = serial_in text in
+    if are_in_range creator serial && bytes_eq text (letter ++ dotted creator serial) then Some (creator, serial) else None
+
+-- the context that a text names
+unfoldable pub context_of : List ℕ → Option ContextId
+context_of text = option_map (λ n. record { creator = n.0; serial = n.1 }) (numbers_of (codes "c") text)
+
+-- the window that a text names
+unfoldable pub window_of : List ℕ → Option WindowId
+window_of text = option_map (λ n. record { creator = n.0; serial = n.1 }) (numbers_of (codes "w") text)
+
+-- the query that a text names
+unfoldable pub query_of : List ℕ → Option QueryId
+query_of text = option_map (λ n. record { creator = n.0; serial = n.1 }) (numbers_of (codes "q") text)
+
+-- the group that a text names: the number behind the letter, if it is in range and the text is that of the group
+unfoldable pub group_of : List ℕ → Option GroupId
+group_of text =
+    let number = digits_value 10 (drop 1 text) in
+    if nat_le 1 number && nat_le number 4294967295 && bytes_eq text (codes "g" ++ decimal number) then Some (record { 0 = number }) else None

@@ -1,5 +1,5 @@
 ghost use Rattle.std.specs.Prelude.{◌≡◌, ◌≢◌, IfOk, MatchOption};
-ghost use Rattle.fission_ids.specs.Ids.{IsContextId, context_number, context_text};
+ghost use Rattle.fission_ids.specs.Ids.{IsContextId, context_number, context_of, context_text};
 ghost use Rattle.fission_ids.specs.declared.context.ContextId.{ContextId};
 
 use crate::memory::{Duplicate, OutOfMemory};
@@ -25,6 +25,7 @@ impl ContextId {
     pub fn parse(text: &str) -> Option<ContextId>
         ensures cases { MatchOption result ((i : ContextId) → IsContextId i → text.now ≢ context_text i) (λ i. IsContextId i × (text.now ≡ context_text i)) }
         ensures inverse { (i : ContextId) → IsContextId i → text.now ≡ context_text i → result ≡ Some i }
+        ensures value { result ≡ context_of text.now }
     {
         let (creator, serial) = read_numbers('c', text)?;
         Some(ContextId { creator, serial })

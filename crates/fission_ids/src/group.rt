@@ -1,5 +1,5 @@
 ghost use Rattle.std.specs.Prelude.{◌≡◌, ◌≢◌, IfOk, MatchOption};
-ghost use Rattle.fission_ids.specs.Ids.{IsGroupId, group_text};
+ghost use Rattle.fission_ids.specs.Ids.{IsGroupId, group_of, group_text};
 ghost use Rattle.fission_ids.specs.declared.group.GroupId.{GroupId};
 
 use crate::memory::{Duplicate, OutOfMemory};
@@ -22,6 +22,7 @@ impl GroupId {
     pub fn parse(text: &str) -> Option<GroupId>
         ensures cases { MatchOption result ((i : GroupId) → IsGroupId i → text.now ≢ group_text i) (λ i. IsGroupId i × (text.now ≡ group_text i)) }
         ensures inverse { (i : GroupId) → IsGroupId i → text.now ≡ group_text i → result ≡ Some i }
+        ensures value { result ≡ group_of text.now }
     {
         Some(GroupId(read_serial(after_letter('g', text)?)?))
     }

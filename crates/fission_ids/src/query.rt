@@ -1,5 +1,5 @@
 ghost use Rattle.std.specs.Prelude.{◌≡◌, ◌≢◌, IfOk, MatchOption};
-ghost use Rattle.fission_ids.specs.Ids.{IsQueryId, query_text};
+ghost use Rattle.fission_ids.specs.Ids.{IsQueryId, query_of, query_text};
 ghost use Rattle.fission_ids.specs.declared.query.QueryId.{QueryId};
 
 use crate::memory::{Duplicate, OutOfMemory};
@@ -25,6 +25,7 @@ impl QueryId {
     pub fn parse(text: &str) -> Option<QueryId>
         ensures cases { MatchOption result ((i : QueryId) → IsQueryId i → text.now ≢ query_text i) (λ i. IsQueryId i × (text.now ≡ query_text i)) }
         ensures inverse { (i : QueryId) → IsQueryId i → text.now ≡ query_text i → result ≡ Some i }
+        ensures value { result ≡ query_of text.now }
     {
         let (creator, serial) = read_numbers('q', text)?;
         Some(QueryId { creator, serial })

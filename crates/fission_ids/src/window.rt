@@ -1,5 +1,5 @@
 ghost use Rattle.std.specs.Prelude.{◌≡◌, ◌≢◌, IfOk, MatchOption};
-ghost use Rattle.fission_ids.specs.Ids.{IsWindowId, window_number, window_text};
+ghost use Rattle.fission_ids.specs.Ids.{IsWindowId, window_number, window_of, window_text};
 ghost use Rattle.fission_ids.specs.declared.window.WindowId.{WindowId};
 
 use crate::memory::{Duplicate, OutOfMemory};
@@ -25,6 +25,7 @@ impl WindowId {
     pub fn parse(text: &str) -> Option<WindowId>
         ensures cases { MatchOption result ((i : WindowId) → IsWindowId i → text.now ≢ window_text i) (λ i. IsWindowId i × (text.now ≡ window_text i)) }
         ensures inverse { (i : WindowId) → IsWindowId i → text.now ≡ window_text i → result ≡ Some i }
+        ensures value { result ≡ window_of text.now }
     {
         let (creator, serial) = read_numbers('w', text)?;
         Some(WindowId { creator, serial })

@@ -12,7 +12,7 @@ use std::marker::Model;
 /// epochs by the fields' numbers.
 #[derive(Debug, Drop)]
 pub struct FieldEpochs {
-    epochs: [Epoch; 5],
+    epochs: [Epoch; 16],
 }
 
 impl Model for FieldEpochs {
@@ -29,7 +29,7 @@ impl FieldEpochs {
         ensures { result ≡ none_marked }
     {
         FieldEpochs {
-            epochs: [Epoch(0); 5],
+            epochs: [Epoch(0); 16],
         }
     }
 

@@ -16,7 +16,7 @@ fn clocks(rt: HostRuntime) -> Result<(), Fail> {
 #[test]
 fn own_writes(rt: HostRuntime) -> Result<(), Fail> {
     let muted = FieldSet::EMPTY.with(Field::Muted);
-    let both = muted.with(Field::Closed);
+    let both = muted.with(Field::Name);
     let mut epochs = FieldEpochs::new();
     assert_eq!(rt; epochs.obsolete(both, Epoch(0)), FieldSet::EMPTY);
     epochs.mark(muted, Epoch(4));

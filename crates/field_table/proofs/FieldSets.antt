@@ -1,15 +1,17 @@
 -- What is in the sets that `FieldSet` makes.
 use Rattle.std.proofs.Common.{◌≡◌, ℕ, zero, suc, ◌+◌, ◌-◌, ◌*◌, ◌/◌, ◌%◌, ◌^◌, ◌<◌, ◌≤◌, ◌==◌, ◌&&◌, ◌||◌, not, Bool, true, false, List, [], ◌∷◌, ◌++◌, length, get_or, map, take, min, max, bit_or, bit_and, refl, sym, ap, ◌∙◌, if◌then◌else◌, arith, lit<, eq-eqb, inl, inr, subst}
 use Rattle.std.proofs.Math.Nat.{pow-suc}
+use Rattle.std.proofs.Math.Pow.{pow-lt}
 use Rattle.std.proofs.lemmas.Bool.{cases_eq, ne_eqb}
 use Rattle.std.specs.Int.{bit_at, bit_not, w16}
 use Rattle.std.proofs.lemmas.Nat.Bits.{bit_at-lt, bit_at_or, bit_at_and, bit_at_not, bit_at-pow_same, bit_at-pow_other, bit_at_lowest, bit_at-suc, bit_at-zero}
 use Rattle.std.proofs.lemmas.Nat.{or_comm, or_shifted}
 use Rattle.std.proofs.lemmas.List.{map_more, length-map, length-take-le, take_all}
 use Rattle.field_table.specs.declared.field.Field.{Field}
-use Rattle.field_table.specs.declared.field.Field.TheVariants.{Closed, Muted, AllowContentRetargeting, IsInBFCache, Loading}
 use Rattle.field_table.specs.declared.field_set.FieldSet.{FieldSet}
 use Rattle.field_table.specs.Field.{fields, number}
+pub use Rattle.field_table.proofs.Tables.{number-at, at_number}
+use Rattle.field_table.proofs.Tables.{stands}
 use Rattle.field_table.specs.FieldSet.{has, with, without, union, minus, number_of_bits, set_of}
 
 -- ---- tests of single bits
@@ -47,35 +49,10 @@ in_one m n = elim (cases_eq m n) [
 -- ---- the numbers of the fields
 
 number_below : (f : Field) → number f < 16
-number_below Closed = lit< tt
-number_below Muted = lit< tt
-number_below AllowContentRetargeting = lit< tt
-number_below IsInBFCache = lit< tt
-number_below Loading = lit< tt
+number_below f = (stands f).below
 
 bit_below : (f : Field) → 2 ^ number f < 2 ^ 16
-bit_below Closed = lit< tt
-bit_below Muted = lit< tt
-bit_below AllowContentRetargeting = lit< tt
-bit_below IsInBFCache = lit< tt
-bit_below Loading = lit< tt
-
--- what a list by the fields' numbers has for a field
-pub at_number : {A : Type 0} (h : Field → A) (d : A) (f : Field) → get_or (map h fields) (number f) d ≡ h f
-at_number h d Closed = refl
-at_number h d Muted = refl
-at_number h d AllowContentRetargeting = refl
-at_number h d IsInBFCache = refl
-at_number h d Loading = refl
-
--- fields stand at their numbers
-pub number-at : (i : ℕ) (d : Field) → i < length fields → number (get_or fields i d) ≡ i
-number-at zero d h = refl
-number-at (suc zero) d h = refl
-number-at (suc (suc zero)) d h = refl
-number-at (suc (suc (suc zero))) d h = refl
-number-at (suc (suc (suc (suc zero)))) d h = refl
-number-at (suc (suc (suc (suc (suc i))))) d h = absurd (omega arith)
+bit_below f = pow-lt (number_below f)
 
 -- ---- the members of the sets that are made
 

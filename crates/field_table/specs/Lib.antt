@@ -1,3 +1,5 @@
 pub mod Field
 pub mod FieldSet
+pub mod Reading
 pub mod Table
+pub mod Value

@@ -1,31 +1,83 @@
 ghost use Rattle.std.specs.Prelude.{◌≡◌};
-ghost use Rattle.field_table.specs.Field.{number, name, named, initial};
+ghost use Rattle.field_table.specs.Field.{number, name, kind, named, initial};
 
+use crate::kind::Kind;
 use crate::value::Value;
+use std::alloc::Global;
 
 /// A synced field of a browsing context, in the order of the fields' numbers.
 #[derive(Clone, Copy, Debug, PartialEq, Eq)]
 pub enum Field {
+    /// The name by which links and scripts reach the context.
+    Name,
     /// Whether the context was closed by a script.
     Closed,
+    /// Whether the embedder made the page active: 0 for active, 1 for inactive, 2 for as its parent is.
+    ExplicitActive,
+    /// The window global that the context shows.
+    CurrentInnerWindowId,
+    /// The context whose script opened this one.
+    OpenerId,
+    /// The zoom of the whole page, in percent.
+    FullZoom,
+    /// The zoom of its text alone, in percent.
+    TextZoom,
     /// Whether the page is muted.
     Muted,
+    /// The group of message managers that the tab belongs to.
+    MessageManagerGroup,
+    /// What servers are told in place of the browser's user agent, empty for nothing else.
+    UserAgentOverride,
     /// Whether the content may be retargeted.
     AllowContentRetargeting,
+    /// What the page's sandbox forbids, a bit for each restriction.
+    SandboxFlags,
     /// Whether the page is in the back-forward cache.
     IsInBFCache,
     /// Whether the page is being loaded.
     Loading,
+    /// The flags that each load in the context begins with, as bits.
+    DefaultLoadFlags,
+    /// How an app's page is shown: 0 for in the browser, 1 for with little around it, 2 for alone, 3 for on the full screen.
+    DisplayMode,
 }
+
+// The greatest number of 32 bits.
+const MAX: u64 = 4_294_967_295;
+
+const OFF: Kind = Kind::Flag { initial: false };
+
+const ON: Kind = Kind::Flag { initial: true };
+
+const BITS: Kind = Kind::Number {
+    max: MAX,
+    initial: 0,
+};
+
+const PERCENT: Kind = Kind::Number {
+    max: MAX,
+    initial: 100,
+};
 
 impl Field {
     /// Every field, by number.
-    pub const ALL: [Field; 5] = [
+    pub const ALL: [Field; 16] = [
+        Field::Name,
         Field::Closed,
+        Field::ExplicitActive,
+        Field::CurrentInnerWindowId,
+        Field::OpenerId,
+        Field::FullZoom,
+        Field::TextZoom,
         Field::Muted,
+        Field::MessageManagerGroup,
+        Field::UserAgentOverride,
         Field::AllowContentRetargeting,
+        Field::SandboxFlags,
         Field::IsInBFCache,
         Field::Loading,
+        Field::DefaultLoadFlags,
+        Field::DisplayMode,
     ];
 
     /// The field's place in a table of fields, from 0 on.
@@ -35,18 +87,44 @@ impl Field {
         self as usize
     }
 
+    // The table of fields: each field's name, and what it may hold.
+    #[tactic(auto, unfolding(crate::specs::Field::row))]
+    fn row(self) -> (&'static str, Kind)
+        ensures name { result.0.now ≡ name self }
+        ensures kind { result.1 ≡ kind self }
+    {
+        match self {
+            Field::Name => ("Name", Kind::Words),
+            Field::Closed => ("Closed", OFF),
+            Field::ExplicitActive => ("ExplicitActive", Kind::Number { max: 2, initial: 2 }),
+            Field::CurrentInnerWindowId => ("CurrentInnerWindowId", Kind::Window),
+            Field::OpenerId => ("OpenerId", Kind::Context),
+            Field::FullZoom => ("FullZoom", PERCENT),
+            Field::TextZoom => ("TextZoom", PERCENT),
+            Field::Muted => ("Muted", OFF),
+            Field::MessageManagerGroup => ("MessageManagerGroup", Kind::Words),
+            Field::UserAgentOverride => ("UserAgentOverride", Kind::Words),
+            Field::AllowContentRetargeting => ("AllowContentRetargeting", ON),
+            Field::SandboxFlags => ("SandboxFlags", BITS),
+            Field::IsInBFCache => ("IsInBFCache", OFF),
+            Field::Loading => ("Loading", OFF),
+            Field::DefaultLoadFlags => ("DefaultLoadFlags", BITS),
+            Field::DisplayMode => ("DisplayMode", Kind::Number { max: 3, initial: 0 }),
+        }
+    }
+
     /// The field's name.
-    #[tactic(auto, unfolding(crate::specs::Field::name))]
     pub fn name(self) -> &'static str
         ensures { result.now ≡ name self }
     {
-        match self {
-            Field::Closed => "Closed",
-            Field::Muted => "Muted",
-            Field::AllowContentRetargeting => "AllowContentRetargeting",
-            Field::IsInBFCache => "IsInBFCache",
-            Field::Loading => "Loading",
-        }
+        self.row().0
+    }
+
+    /// What the field may hold.
+    pub fn kind(self) -> Kind
+        ensures { result ≡ kind self }
+    {
+        self.row().1
     }
 
     /// The field of a name. Capitals count.
@@ -57,14 +135,9 @@ impl Field {
     }
 
     /// What the field holds in a new context.
-    pub fn initial(self) -> Value
+    pub fn initial(self, alloc: Global) -> Value
         ensures { result ≡ initial self }
     {
-        match self {
-            Field::AllowContentRetargeting => Value::Flag(true),
-            Field::Closed | Field::Muted | Field::IsInBFCache | Field::Loading => Value::Flag(
-                false,
-            ),
-        }
+        self.kind().initial_value(alloc)
     }
 }

@@ -5,12 +5,14 @@
 mod field;
 mod field_set;
 mod fields;
+mod kind;
 mod value;
 mod verdict;
 
 pub use field::Field;
 pub use field_set::FieldSet;
 pub use fields::Fields;
+pub use kind::Kind;
 pub use value::{Value, ValueFault};
 pub use verdict::Verdict;
 
@@ -24,6 +26,7 @@ fn types_cross() {
     crosses::<Field>();
     crosses::<FieldSet>();
     crosses::<Fields>();
+    crosses::<Kind>();
     crosses::<Value>();
     crosses::<ValueFault>();
     crosses::<Verdict>();

@@ -1,11 +1,17 @@
 -- Merging new values into a table, one after the other.
-use Rattle.std.proofs.Common.{◌≡◌, ℕ, zero, suc, ◌+◌, [], ◌∷◌, take, get_or, set, Option, None, Some, unwrap_or, refl, sym, ap, ◌∙◌, add-one, drop, arith}
-use Rattle.std.proofs.lemmas.List.{get_or-drop, drop-set-lt}
+use Rattle.std.proofs.Common.{List, map, ap₂, ◌≡◌, ℕ, zero, suc, ◌+◌, [], ◌∷◌, take, get_or, set, true, subst, Bool, false, if◌then◌else◌, Option, None, Some, unwrap_or, refl, sym, ap, ◌∙◌, add-one, drop, arith}
+use Rattle.std.proofs.lemmas.List.{get_or-drop, drop-drop, drop-set-lt}
 use Rattle.std.proofs.lemmas.Grind.{drop_more_same}
-use Rattle.field_table.specs.Field.{fields}
+use Rattle.field_table.specs.declared.field.Field.{Field}
+use Rattle.field_table.specs.Field.{fields, number, kind}
+use Rattle.field_table.specs.declared.field_set.FieldSet.{FieldSet}
+use Rattle.field_table.specs.declared.kind.Kind.{Kind}
+use Rattle.field_table.specs.FieldSet.{has}
+use Rattle.field_table.specs.Value.{is_of}
+use Rattle.field_table.proofs.Tables.{at_number, Numbered, fields_numbered}
 use Rattle.field_table.specs.Table.{Table}
 use Rattle.field_table.specs.declared.value.Value.{Value}
-use Rattle.transaction.specs.Transaction.{Changes, merged}
+use Rattle.transaction.specs.Transaction.{Changes, AreOfKind, are_of, written, merged, kept}
 
 -- the table with the value put at a place, if there is one
 abbrev pub put_at : Option Value → ℕ → Table → Table
@@ -47,6 +53,46 @@ merged_more i n before values old fields new at rest done put =
     let e : new ≡ put_at (get_or before i None) i (merged (take i before) old) = put ∙ ap (λ (k : ℕ). put_at (get_or values k None) k fields) at ∙ ap (λ (c : Option Value). put_at c i fields) (same_at i values before rest) ∙ ap (put_at (get_or before i None) i) done in
     rw add-one (e ∙ sym (merged-take-suc i before old))
 
+-- a value that is put is of its field's kind
+pub is_of-put : (i n : ℕ) (before values : Changes) (f : Field) (v : Value) → AreOfKind before → n ≡ number f → n ≡ i → drop i values ≡ drop i before → get_or values n None ≡ Some v → is_of (kind f) v ≡ true
+is_of-put i n before values f v all number_is at rest here =
+    let there : written before f ≡ get_or before i None = ap (λ (k : ℕ). get_or before k None) (sym number_is ∙ at) in
+    let e : written before f ≡ Some v = there ∙ sym (same_at i values before rest) ∙ ap (λ (k : ℕ). get_or values k None) (sym at) ∙ here in
+    subst (λ (o : Option Value). are_of (kind f) o ≡ true) e (all f)
+
 -- a value that was taken is behind
 pub still_left : (i n : ℕ) (before values : Changes) (c : Option Value) → n ≡ i → drop i values ≡ drop i before → drop (i + 1) (set values n c) ≡ drop (i + 1) before
 still_left i n before values c at rest = drop-set-lt (i + 1) values n c (omega arith) ∙ drop_more_same values before i rest
+
+kept_of_kind : (b : Bool) (k : Kind) (o : Option Value) → are_of k o ≡ true → are_of k (if b then o else None) ≡ true
+kept_of_kind true k o h = h
+kept_of_kind false k o h = refl
+
+-- what is kept is of its kind still
+pub AreOfKind-kept : (s : FieldSet) (old new : Changes) → new ≡ kept s old → AreOfKind old → AreOfKind new
+AreOfKind-kept s old new e all f =
+    let h : Field → Option Value = λ g. if has s g then written old g else None in
+    let now : written new f ≡ h f = ap (λ (t : Changes). written t f) e ∙ at_number h None f in
+    ap (are_of (kind f)) now ∙ kept_of_kind (has s f) (kind f) (written old f) (all f)
+
+one_merged : (cs : Changes) (v : Value) (vs : List Value) → merged cs (v ∷ vs) ≡ unwrap_or (get_or cs 0 None) v ∷ merged (drop 1 cs) vs
+one_merged [] v vs = refl
+one_merged (c ∷ cs) v vs = refl
+
+merged_from : (t : Changes) (g : Field → Value) (k : ℕ) (fs : List Field) → Numbered k fs → merged (drop k t) (map g fs) ≡ map (λ f. unwrap_or (written t f) (g f)) fs
+merged_from t g k [] at = none (drop k t)
+  where
+    none : (cs : Changes) → merged cs [] ≡ []
+    none [] = refl
+    none (c ∷ cs) = refl
+merged_from t g k (f ∷ fs) at =
+    let here : k + 0 ≡ k = omega arith in
+    let read : get_or (drop k t) 0 None ≡ written t f = get_or-drop k t 0 None ∙ ap (λ i. get_or t i None) (here ∙ sym at.0) in
+    let next : drop 1 (drop k t) ≡ drop (suc k) t = rw add-one at (drop-drop 1 k t) in
+    one_merged (drop k t) (g f) (map g fs)
+    ∙ ap₂ (λ c l. unwrap_or c (g f) ∷ merged l (map g fs)) read next
+    ∙ ap (λ l. unwrap_or (written t f) (g f) ∷ l) (merged_from t g (suc k) fs at.1)
+
+-- changes merged into a table are the new values, and the table's where there are none
+pub merged_map : (t : Changes) (g : Field → Value) → merged t (map g fields) ≡ map (λ f. unwrap_or (written t f) (g f)) fields
+merged_map t g = merged_from t g 0 fields fields_numbered

@@ -1,11 +1,13 @@
 -- Changes of fields that are committed as one.
-use Rattle.std.specs.Prelude.{List, [], ◌∷◌, ◌||◌, Option, None, map, slice_index_or, unwrap_or, is_some, if◌then◌else◌}
+use Rattle.std.specs.Prelude.{◌≡◌, List, [], ◌∷◌, ◌||◌, Bool, true, Option, None, Some, map, slice_index_or, unwrap_or, is_some, if◌then◌else◌}
 use Rattle.field_table.specs.declared.field.Field.{Field}
 use Rattle.field_table.specs.declared.field_set.FieldSet.{FieldSet}
 use Rattle.field_table.specs.declared.value.Value.{Value}
-use Rattle.field_table.specs.Field.{fields, number}
+use Rattle.field_table.specs.declared.kind.Kind.{Kind}
+use Rattle.field_table.specs.Field.{fields, number, kind}
 use Rattle.field_table.specs.FieldSet.{has, set_of}
 use Rattle.field_table.specs.Table.{Table}
+use Rattle.field_table.specs.Value.{is_of}
 
 -- the new value of each field that is modified, by the fields' numbers
 abbrev pub Changes : Type 0
@@ -18,6 +20,15 @@ nothing = map (λ _. None) fields
 -- the new value of a field, if it is modified
 abbrev pub written : Changes → Field → Option Value
 written t f = slice_index_or t (number f) None
+
+-- whether a value, if there is one, is of a kind
+abbrev pub are_of : Kind → Option Value → Bool
+are_of k None = true
+are_of k (Some v) = is_of k v
+
+-- each new value is of its field's kind
+abbrev pub AreOfKind : Changes → Type 0
+AreOfKind t = (f : Field) → are_of (kind f) (written t f) ≡ true
 
 -- the table with the new values in it
 abbrev pub merged : Changes → Table → Table

@@ -1,9 +1,10 @@
-ghost use Rattle.std.specs.Prelude.{◌≡◌, ◌≤◌, ◌||◌, ◌&&◌, Some, None, false, length, OnOk, IsTrue, IsSome, is_some, slice_set, if◌then◌else◌};
+ghost use Rattle.std.specs.Prelude.{◌≡◌, ◌≤◌, ◌||◌, ◌&&◌, Some, None, true, false, IfSome, length, OnOk, IsTrue, IsSome, is_some, slice_set, if◌then◌else◌};
 ghost use Rattle.std.specs.Option.{option_copied};
 ghost use Rattle.field_table.specs.declared.field.Field.{Field};
-ghost use Rattle.field_table.specs.Field.{number, fields};
+ghost use Rattle.field_table.specs.Field.{number, kind, fields as all_fields};
 ghost use Rattle.field_table.specs.FieldSet.{has};
-ghost use Rattle.transaction.specs.Transaction.{nothing, written, merged, modified_in, kept, allowed_by};
+ghost use Rattle.field_table.specs.Value.{is_of};
+ghost use Rattle.transaction.specs.Transaction.{AreOfKind, nothing, written, merged, modified_in, kept, allowed_by};
 
 use field_table::{Field, FieldSet, Fields, Value};
 use fission_ids::{Duplicate, OutOfMemory};
@@ -30,19 +31,21 @@ impl Duplicate for Split {
     }
 }
 
-/// New values for some fields, committed as one. Seen as a list by the fields' numbers: the new value of each field
-/// that is modified.
+/// New values for some fields, committed as one, each of its field's kind. Seen as a list by the fields' numbers: the new
+/// value of each field that is modified.
 #[derive(Debug, Drop)]
 pub struct Transaction {
-    values: [Option<Value>; 5],
+    values: [Option<Value>; 16],
 }
 
 impl Model for Transaction {
-    ghost use Rattle.transaction.specs.Transaction.{Changes};
+    ghost use Rattle.transaction.specs.Transaction.{Changes, AreOfKind};
 
     ghost Value = { Changes };
 
     ghost view = { λ t. t.values };
+
+    ghost invariant = { λ t. AreOfKind t.values };
 }
 
 impl Transaction {
@@ -51,20 +54,25 @@ impl Transaction {
         ensures { result ≡ nothing }
     {
         Transaction {
-            values: [None, None, None, None, None],
+            values: [
+                None, None, None, None, None, None, None, None, None, None, None, None, None, None,
+                None, None,
+            ],
         }
     }
 
     /// Modifies a field. A later value wins.
     pub fn set(&mut self, f: Field, v: Value)
+        requires { is_of (kind f) v ≡ true }
         ensures { self.new ≡ slice_set self.old (number f) (Some v) }
     {
         self.values[f.number()] = Some(v);
     }
 
-    /// The new value of a field, or None where it isn't modified.
+    /// The new value of a field, which is of the field's kind, or None where it isn't modified.
     pub fn value(&self, f: Field) -> Option<&Value>
-        ensures { option_copied result ≡ written self.now f }
+        ensures value { option_copied result ≡ written self.now f }
+        ensures kind { IfSome result (λ v. is_of (kind f) v.now ≡ true) }
     {
         self.values[f.number()].as_ref()
     }
@@ -121,19 +129,15 @@ impl Transaction {
         ensures { fields.new ≡ merged self fields.old }
     {
         let Transaction { mut values } = self;
-        for f in Field::ALL {
-            if let Some(v) = values[f.number()].take() {
-                fields.put(f, v);
-            }
-        }
+        put_in(&mut values, fields);
     }
 }
 
 impl Duplicate for Transaction {
     fn copy(&self) -> Result<Transaction, OutOfMemory> {
-        let mut copy = Transaction::new();
-        copy_into(&self.values, &mut copy.values)?;
-        Ok(copy)
+        let Transaction { mut values } = Transaction::new();
+        copy_into(&self.values, &mut values)?;
+        Ok(Transaction { values })
     }
 }
 
@@ -147,13 +151,34 @@ fn copy_into(values: &[Option<Value>], copies: &mut [Option<Value>]) -> Result<(
     Ok(())
 }
 
+// Moves the new values into the fields.
+fn put_in(values: &mut [Option<Value>], fields: &mut Fields)
+    requires long { length values.old ≡ length all_fields }
+    requires kinds { AreOfKind values.old }
+    ensures { fields.new ≡ merged values.old fields.old }
+{
+    for f in Field::ALL {
+        if let Some(v) = values[f.number()].take() {
+            fields.put(f, v);
+        }
+    }
+}
+
 fn keep_in(values: &mut [Option<Value>], s: FieldSet)
-    requires { length values.old ≡ length fields }
+    requires { length values.old ≡ length all_fields }
     ensures { values.new ≡ kept s values.old }
 {
     for f in Field::ALL {
         if !s.has(f) {
-            values[f.number()] = None;
+            unset(values, f);
         }
     }
+}
+
+// The field isn't modified any more.
+fn unset(values: &mut [Option<Value>], f: Field)
+    requires { length values.old ≡ length all_fields }
+    ensures { values.new ≡ slice_set values.old (number f) None }
+{
+    values[f.number()] = None;
 }

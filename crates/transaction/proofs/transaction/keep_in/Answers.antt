@@ -20,7 +20,7 @@ loop-f-preserved c =
     let vs = c.args.values.now in
     let h : Field → Option Value = λ f. if has c.args.s f then written vs f else None in
     elim c.if-not-has.branch [
-      | then-not-has w ↦ filled_more h c.loop-f.f-index _ None vs c.loop-f-test.true c.requires _ _ _ _ c.loop-f.invariant w.values-is w.number.ensures (taken_out _ _ _ c.has.ensures w.if-not-has.true)
+      | then-not-has w ↦ filled_more h c.loop-f.f-index _ None vs c.loop-f-test.true c.requires _ _ _ _ c.loop-f.invariant (w.values-is ∙ w.unset.ensures) refl (taken_out _ _ _ c.has.ensures w.if-not-has.true)
       | else-not-has w ↦ filled_same h c.loop-f.f-index _ None vs c.loop-f-test.true c.requires _ _ c.loop-f.invariant (left_in _ _ _ c.has.ensures w.if-not-has.false) w.values-is
     ]
 

@@ -2,7 +2,7 @@ use Rattle.std.proofs.Common.{◌∙◌, ap, if◌then◌else◌}
 use Rattle.fission_ids.specs.declared.epoch.Epoch.{Epoch}
 use Rattle.field_table.specs.declared.field.Field.{Field}
 use Rattle.field_table.specs.FieldSet.{has}
-use Rattle.field_table.proofs.FieldSets.{at_number}
+use Rattle.field_table.proofs.Tables.{at_number}
 use Rattle.epochs.specs.FieldEpochs.{Epochs, epoch_of, marked}
 use Rattle.epochs.proofs.field_epochs.FieldEpochs.mark.Goals as goal
 

@@ -2,9 +2,13 @@ use Rattle.std.proofs.Common.{◌∙◌, ap, Option, None, if◌then◌else◌}
 use Rattle.field_table.specs.declared.field.Field.{Field}
 use Rattle.field_table.specs.declared.value.Value.{Value}
 use Rattle.field_table.specs.FieldSet.{has}
-use Rattle.field_table.proofs.FieldSets.{at_number}
+use Rattle.field_table.proofs.Tables.{at_number}
 use Rattle.transaction.specs.Transaction.{Changes, written, kept}
+use Rattle.transaction.proofs.Merging.{AreOfKind-kept}
 use Rattle.transaction.proofs.transaction.Transaction.keep.Goals as goal
+
+pub invariant_of-self : goal.invariant_of-self
+invariant_of-self c = AreOfKind-kept c.args.s _ _ c.keep_in.ensures c.self.invariant
 
 pub returns-clause-whole : goal.returns-clause-whole
 returns-clause-whole c = c.keep_in.ensures ∙ ap (kept c.args.s) c.self.view_is

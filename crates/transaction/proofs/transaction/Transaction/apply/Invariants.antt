@@ -1,9 +1,0 @@
-use Rattle.std.proofs.Common.{◌≡◌, take, drop}
-use Rattle.transaction.specs.Transaction.{merged}
-use Rattle.transaction.proofs.transaction.Transaction.apply.Given as goal
-
-abbrev pub invariant-loop-f : goal.invariant-loop-f
-invariant-loop-f l = record {
-  done : l.fields ≡ merged (take l.f-index l.initial.values) l.fn.fields;
-  rest : drop l.f-index l.values ≡ drop l.f-index l.initial.values;
-}

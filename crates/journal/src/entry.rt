@@ -27,3 +27,12 @@ pub struct Entry {
     pub step: Step,
     pub answer: Answer,
 }
+
+impl Duplicate for Entry {
+    fn copy(&self) -> Result<Entry, OutOfMemory> {
+        Ok(Entry {
+            step: self.step.copy()?,
+            answer: self.answer.copy()?,
+        })
+    }
+}

@@ -1,0 +1,39 @@
+use crate::part::{DownPart, UpPart};
+use fission_ids::{Duplicate, Epoch, OutOfMemory, Seq};
+
+/// What a process sends the parent in one step.
+#[derive(Debug, Drop)]
+pub struct UpBundle {
+    /// The epoch of the process's last commit, this bundle's included.
+    pub epoch: Epoch,
+    /// How many bundles the process had taken.
+    pub seen: u64,
+    pub parts: Seq<UpPart>,
+}
+
+impl Duplicate for UpBundle {
+    fn copy(&self) -> Result<UpBundle, OutOfMemory> {
+        Ok(UpBundle {
+            epoch: self.epoch,
+            seen: self.seen,
+            parts: self.parts.copy()?,
+        })
+    }
+}
+
+/// What the parent sends a process in one step.
+#[derive(Debug, Drop)]
+pub struct DownBundle {
+    /// The epoch that the parent heard last of the process.
+    pub epoch: Epoch,
+    pub parts: Seq<DownPart>,
+}
+
+impl Duplicate for DownBundle {
+    fn copy(&self) -> Result<DownBundle, OutOfMemory> {
+        Ok(DownBundle {
+            epoch: self.epoch,
+            parts: self.parts.copy()?,
+        })
+    }
+}

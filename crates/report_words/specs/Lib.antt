@@ -1,0 +1,4 @@
+pub mod Pieces
+pub mod Refusals
+pub mod Notes
+pub mod Words

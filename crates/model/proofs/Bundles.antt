@@ -1,13 +1,13 @@
 -- The bundles of a link: their entries' numbers rise, and so a base rises with what is sent and taken.
-use Rattle.std.proofs.Common.{◌≡◌, ℕ, suc, zero, ◌+◌, ◌-◌, ◌<◌, ◌≤◌, Bool, true, false, ◌&&◌, subst, if◌then◌else◌, Option, None, Some, is_some, List, [], ◌∷◌, ◌++◌, length, get_or, take, reverse, refl, ap, sym, ◌∙◌, arith}
+use Rattle.std.proofs.Common.{◌≡◌, ℕ, suc, zero, ◌+◌, ◌-◌, ◌<◌, ◌≤◌, Bool, true, false, ◌&&◌, subst, if◌then◌else◌, Option, None, Some, List, [], ◌∷◌, ◌++◌, length, get_or, take, reverse, refl, ap, sym, ◌∙◌, arith}
 use Rattle.std.specs.Prelude.{⊤}
 use Rattle.std.proofs.lemmas.List.{append-nil, take_all, take-append-le, length-append, length-reverse, length-take-le}
 use Rattle.model.proofs.Lists.{next_element}
-use Rattle.transaction.specs.Transaction.{Changes}
 use Rattle.wire_msgs.specs.declared.config.Config.{Config}
 use Rattle.journal.specs.declared.entry.Entry.{Entry}
-use Rattle.model.specs.Journal.{Journal, is_accepted, committed}
-use Rattle.model.specs.Links.{Sent, sent_in, sent, is_subscribed, is_take, taken, last_entry, base}
+use Rattle.model.specs.Journal.{Journal, Commit, is_accepted, committed}
+use Rattle.model.specs.Tabs.{is_subscribed}
+use Rattle.model.specs.Links.{Sent, is_sent, sent_in, sent, is_take, taken, last_entry, base}
 
 -- no number is below the one before it, nor the first one below k
 abbrev pub IsRising : ℕ → List Sent → Type 0
@@ -41,22 +41,22 @@ front_rises k (suc a) b [] more h r = starts k b more r
 front_rises k (suc a) zero (s ∷ ss) more h r = absurd (omega arith)
 front_rises k (suc a) (suc b) (s ∷ ss) more h r = front_rises s.entry a b ss more (omega arith) r.1
 
-rises_on : (k n : ℕ) (t : Changes) (ss : List Sent) → IsRising k ss → last_entry k ss ≤ n → IsRising k (ss ++ record { entry = n; commit = t } ∷ [])
+rises_on : (k n : ℕ) (t : Commit) (ss : List Sent) → IsRising k ss → last_entry k ss ≤ n → IsRising k (ss ++ record { entry = n; commit = t } ∷ [])
 rises_on k n t [] r h = (h, tt)
 rises_on k n t (s ∷ ss) r h = (r.0, rises_on s.entry n t ss r.1 h)
 
-pub last_of : (k n : ℕ) (t : Changes) (ss : List Sent) → last_entry k (ss ++ record { entry = n; commit = t } ∷ []) ≡ n
+pub last_of : (k n : ℕ) (t : Commit) (ss : List Sent) → last_entry k (ss ++ record { entry = n; commit = t } ∷ []) ≡ n
 last_of k n t [] = refl
 last_of k n t (s ∷ ss) = last_of s.entry n t ss
 
 -- one entry more sends a bundle or none
-one_more : (n : ℕ) (t : Changes) (b : Bool) (ss : List Sent) → Numbered n ss → Numbered (suc n) (ss ++ (if b then record { entry = suc n; commit = t } ∷ [] else []))
+one_more : (n : ℕ) (t : Commit) (b : Bool) (ss : List Sent) → Numbered n ss → Numbered (suc n) (ss ++ (if b then record { entry = suc n; commit = t } ∷ [] else []))
 one_more n t true ss h = record { rising = rises_on 0 (suc n) t ss h.rising (omega arith); within = omega (arith, last_of 0 (suc n) t ss) }
 one_more n t false ss h = rw (append-nil ss) record { rising = h.rising; within = omega arith }
 
-sent_more : (c : Config) (p n : ℕ) (t : Option Changes) (ss : List Sent) → Numbered n ss → Numbered (suc n) (ss ++ sent_in c p (suc n) t)
+sent_more : (c : Config) (p n : ℕ) (t : Option Commit) (ss : List Sent) → Numbered n ss → Numbered (suc n) (ss ++ sent_in c p (suc n) t)
 sent_more c p n None ss h = rw (append-nil ss) record { rising = h.rising; within = omega arith }
-sent_more c p n (Some t) ss h = one_more n t (is_subscribed c.tabs p) ss h
+sent_more c p n (Some t) ss h = one_more n t (is_subscribed c.tabs t.context p) ss h
 
 -- what was sent has the numbers of the journal's entries
 pub numbered : (c : Config) (p : ℕ) (j : Journal) → Numbered (length j) (sent c p j)
@@ -99,7 +99,7 @@ passed count left number ss more z r = record {
 }
 
 -- a bundle that was taken is reached
-pub reaches : (count left number n : ℕ) (t : Changes) (ss : List Sent) → 0 < left → Reached count left number ss → Reached count (left - 1) n (ss ++ record { entry = n; commit = t } ∷ [])
+pub reaches : (count left number n : ℕ) (t : Commit) (ss : List Sent) → 0 < left → Reached count left number ss → Reached count (left - 1) n (ss ++ record { entry = n; commit = t } ∷ [])
 reaches count left number n t ss h r =
     let one : Sent = record { entry = n; commit = t } in
     let len : length (ss ++ one ∷ []) ≡ length ss + 1 = length-append ss (one ∷ []) in
@@ -108,16 +108,13 @@ reaches count left number n t ss h r =
       number_is = sym (last_of 0 n t ss) ∙ sym (ap (last_entry 0) (take_all count (ss ++ one ∷ []) (omega (arith, len, r.left_is))));
     }
 
-choose_sent : (c : Config) (p count left number n : ℕ) (o : Option Changes) (ss : List Sent) (b : Bool) → is_subscribed c.tabs p ≡ b → 0 < left → (b && is_some o) ≡ true → Reached count left number ss → Reached count (left - 1) n (ss ++ sent_in c p n o)
-choose_sent c p count left number n None ss true s h y r = cc
-choose_sent c p count left number n None ss false s h y r = cc
-choose_sent c p count left number n (Some t) ss true s h y r = rw s (reaches count left number n t ss h r)
-choose_sent c p count left number n (Some t) ss false s h y r = cc
+choose_sent : (c : Config) (p count left number n : ℕ) (o : Option Commit) (ss : List Sent) → 0 < left → is_sent c p o ≡ true → Reached count left number ss → Reached count (left - 1) n (ss ++ sent_in c p n o)
+choose_sent c p count left number n None ss h y r = cc
+choose_sent c p count left number n (Some t) ss h y r = rw y (reaches count left number n t ss h r)
 
-choose_silent : (c : Config) (p n : ℕ) (o : Option Changes) (ss : List Sent) (b : Bool) → is_subscribed c.tabs p ≡ b → (b && is_some o) ≡ false → ss ++ sent_in c p n o ≡ ss
-choose_silent c p n None ss b s y = append-nil ss
-choose_silent c p n (Some t) ss true s y = cc
-choose_silent c p n (Some t) ss false s y = rw s (append-nil ss)
+choose_silent : (c : Config) (p n : ℕ) (o : Option Commit) (ss : List Sent) → is_sent c p o ≡ false → ss ++ sent_in c p n o ≡ ss
+choose_silent c p n None ss y = append-nil ss
+choose_silent c p n (Some t) ss y = rw y (append-nil ss)
 
 -- the same record at equal numbers
 moved : (count left left' number number' : ℕ) (ss : List Sent) → left' ≡ left → number' ≡ number → Reached count left number ss → Reached count left' number' ss
@@ -129,20 +126,20 @@ unfolding sent
 looks_none c p count left e = record { left_is = omega arith; number_is = none_reached count }
 
 -- one entry more, by what it sent and how many bundles are left
-pub looks_sent : (c : Config) (p count left left' number number' i : ℕ) (es : List Entry) (e : Entry) → i < length es → e ≡ get_or es i e → 0 < left → (is_subscribed c.tabs p && is_some (committed e)) ≡ true → left' ≡ left - 1 → number' ≡ i + 1 → Reached count left number (sent c p (reverse (take i es))) → Reached count left' number' (sent c p (reverse (take (i + 1) es)))
+pub looks_sent : (c : Config) (p count left left' number number' i : ℕ) (es : List Entry) (e : Entry) → i < length es → e ≡ get_or es i e → 0 < left → is_sent c p (committed e) ≡ true → left' ≡ left - 1 → number' ≡ i + 1 → Reached count left number (sent c p (reverse (take i es))) → Reached count left' number' (sent c p (reverse (take (i + 1) es)))
 unfolding sent
 looks_sent c p count left left' number number' i es e h is m y l n r =
     let older : Journal = reverse (take i es) in
     let len : length older ≡ i = length-reverse (take i es) ∙ length-take-le i es (omega arith) in
     rw (next_element es i e h is)
     (moved count (left - 1) left' (suc (length older)) number' (sent c p older ++ sent_in c p (suc (length older)) (committed e)) l (omega arith)
-    (choose_sent c p count left number (suc (length older)) (committed e) (sent c p older) (is_subscribed c.tabs p) refl m y r))
+    (choose_sent c p count left number (suc (length older)) (committed e) (sent c p older) m y r))
 
-pub looks_silent : (c : Config) (p count left left' number number' i : ℕ) (es : List Entry) (e : Entry) → i < length es → e ≡ get_or es i e → (is_subscribed c.tabs p && is_some (committed e)) ≡ false → left' ≡ left → number' ≡ number → Reached count left number (sent c p (reverse (take i es))) → Reached count left' number' (sent c p (reverse (take (i + 1) es)))
+pub looks_silent : (c : Config) (p count left left' number number' i : ℕ) (es : List Entry) (e : Entry) → i < length es → e ≡ get_or es i e → is_sent c p (committed e) ≡ false → left' ≡ left → number' ≡ number → Reached count left number (sent c p (reverse (take i es))) → Reached count left' number' (sent c p (reverse (take (i + 1) es)))
 unfolding sent
 looks_silent c p count left left' number number' i es e h is y l n r =
     let older : Journal = reverse (take i es) in
-    let same : sent c p older ++ sent_in c p (suc (length older)) (committed e) ≡ sent c p older = choose_silent c p (suc (length older)) (committed e) (sent c p older) (is_subscribed c.tabs p) refl y in
+    let same : sent c p older ++ sent_in c p (suc (length older)) (committed e) ≡ sent c p older = choose_silent c p (suc (length older)) (committed e) (sent c p older) y in
     let P : List Sent → Type 0 = λ ss. Reached count left' number' ss in
     rw (next_element es i e h is) (subst P (sym same) (moved count left left' number number' (sent c p older) l n r))
 

@@ -1,3 +1,4 @@
 pub mod Lists
+pub mod Contexts
 pub mod Bundles
 pub mod Moments

@@ -2,21 +2,23 @@
 use Rattle.std.proofs.Common.{◌≡◌, ℕ, suc, ◌-◌, ◌<◌, ◌≤◌, Bool, true, false, ◌&&◌, if◌then◌else◌, Option, None, Some, List, [], ◌∷◌, ◌++◌, length, take, drop, refl, ap, sym, subst, ◌∙◌, arith, unwrap_or, option_and_then}
 use Rattle.std.proofs.lemmas.List.{append-nil, take_all, length-append, length-drop}
 use Rattle.std.proofs.lemmas.Bool.{and_parts, eqb-true}
+use Rattle.fission_ids.specs.declared.context.ContextId.{ContextId}
 use Rattle.field_table.specs.declared.field.Field.{Field}
 use Rattle.field_table.specs.declared.value.Value.{Value}
-use Rattle.transaction.specs.Transaction.{Changes, written}
 use Rattle.wire_msgs.specs.declared.answer.Answer.{Answer}
 use Rattle.wire_msgs.specs.declared.config.Config.{Config}
-use Rattle.wire_msgs.specs.declared.config.StartTab.{StartTab}
 use Rattle.journal.specs.declared.entry.Step.{Step}
 use Rattle.journal.specs.declared.entry.Step.TheVariants.{ParentAct, Take}
 use Rattle.journal.specs.declared.entry.Entry.{Entry}
-use Rattle.model.specs.Journal.{Journal, up_to, is_accepted, commit_of, committed}
-use Rattle.model.specs.Values.{value_at}
-use Rattle.model.specs.Links.{Sent, is_live, is_subscribed, sent_in, sent, is_take, taken, waiting, last_entry, base}
+use Rattle.model.specs.Journal.{Journal, Commit, up_to, is_accepted, same_context, commit_of, committed}
+use Rattle.transaction.specs.Transaction.{written}
+use Rattle.model.specs.Values.{value_for, value_at}
+use Rattle.model.specs.Tabs.{is_live, is_subscribed}
+use Rattle.model.specs.Links.{Sent, sent_in, sent, is_take, taken, waiting, last_entry, base}
 use Rattle.model.specs.View.{view, parent_view}
 use Rattle.model.specs.Next.{take_answer, answer_of, Lawful}
 use Rattle.model.specs.Laws.{Unchanged}
+use Rattle.model.proofs.Contexts.{not_same, subscribed_live}
 use Rattle.model.proofs.Bundles.{numbered, base_within, last_of}
 
 -- an entry past a moment doesn't stand at it
@@ -32,51 +34,71 @@ up_to_all e older =
     ap (λ n. drop n (e ∷ older)) none
 
 -- an entry that committed nothing changes no value and sends nothing
-silent_value : (f : Field) (e : Entry) (older : Journal) → committed e ≡ None → value_at f (e ∷ older) ≡ value_at f older
+silent_value : (x : ContextId) (f : Field) (e : Entry) (older : Journal) → committed e ≡ None → value_at x f (e ∷ older) ≡ value_at x f older
 unfolding value_at
-silent_value f e older h = ap (λ (o : Option Changes). unwrap_or (option_and_then (λ (t : Changes). written t f) o) (value_at f older)) h
+silent_value x f e older h = ap (λ (o : Option Commit). unwrap_or (option_and_then (value_for x f) o) (value_at x f older)) h
 
 silent_sent : (c : Config) (p : ℕ) (e : Entry) (older : Journal) → committed e ≡ None → sent c p (e ∷ older) ≡ sent c p older
 unfolding sent
-silent_sent c p e older h = ap (λ (o : Option Changes). sent c p older ++ sent_in c p (suc (length older)) o) h ∙ append-nil (sent c p older)
+silent_sent c p e older h = ap (λ (o : Option Commit). sent c p older ++ sent_in c p (suc (length older)) o) h ∙ append-nil (sent c p older)
 
--- an entry that committed something sends it to a subscribed process
-loud_sent : (c : Config) (p : ℕ) (t : Changes) (e : Entry) (older : Journal) → is_subscribed c.tabs p ≡ true → committed e ≡ Some t → sent c p (e ∷ older) ≡ sent c p older ++ record { entry = suc (length older); commit = t } ∷ []
+-- an entry that committed something sends it to a process that is subscribed to its context
+sent_if : (c : Config) (p : ℕ) (t : Commit) (e : Entry) (older : Journal) (b : Bool) → is_subscribed c.tabs t.context p ≡ b → committed e ≡ Some t
+    → sent c p (e ∷ older) ≡ sent c p older ++ (if b then record { entry = suc (length older); commit = t } ∷ [] else [])
 unfolding sent
-loud_sent c p t e older s h =
+sent_if c p t e older b s h =
     let one : Sent = record { entry = suc (length older); commit = t } in
-    ap (λ (o : Option Changes). sent c p older ++ sent_in c p (suc (length older)) o) h ∙ ap (λ (b : Bool). sent c p older ++ (if b then one ∷ [] else [])) s
+    ap (λ (o : Option Commit). sent c p older ++ sent_in c p (suc (length older)) o) h ∙ ap (λ (b : Bool). sent c p older ++ (if b then one ∷ [] else [])) s
 
--- nothing was accepted after the last bundle of a subscribed process was sent
-pub none_unsent : (c : Config) (p : ℕ) (f : Field) (j : Journal) → is_subscribed c.tabs p ≡ true → value_at f (up_to (last_entry 0 (sent c p j)) j) ≡ value_at f j
+-- a commit of another context leaves the values of this one
+other_value : (x : ContextId) (f : Field) (t : Commit) (e : Entry) (older : Journal) → committed e ≡ Some t → same_context t.context x ≡ false → value_at x f (e ∷ older) ≡ value_at x f older
+unfolding value_at
+other_value x f t e older h other =
+    ap (λ (o : Option Commit). unwrap_or (option_and_then (value_for x f) o) (value_at x f older)) h
+    ∙ ap (λ (b : Bool). unwrap_or (if b then written t.change f else None) (value_at x f older)) other
+
+-- one entry more, by what it committed and whether that was sent
+unsent_more : (c : Config) (p : ℕ) (x : ContextId) (f : Field) (e : Entry) (older : Journal) → is_subscribed c.tabs x p ≡ true
+    → value_at x f (up_to (last_entry 0 (sent c p older)) older) ≡ value_at x f older
+    → value_at x f (up_to (last_entry 0 (sent c p (e ∷ older))) (e ∷ older)) ≡ value_at x f (e ∷ older)
+unsent_more c p x f e older s before = by_commit (committed e) refl
+  where
+    Shows : Type 0
+    Shows = value_at x f (up_to (last_entry 0 (sent c p (e ∷ older))) (e ∷ older)) ≡ value_at x f (e ∷ older)
+
+    unsent : sent c p (e ∷ older) ≡ sent c p older → value_at x f (e ∷ older) ≡ value_at x f older → Shows
+    unsent same value =
+        let last : last_entry 0 (sent c p (e ∷ older)) ≡ last_entry 0 (sent c p older) = ap (last_entry 0) same in
+        ap (λ k. value_at x f (up_to k (e ∷ older))) last
+        ∙ ap (value_at x f) (up_to_older (last_entry 0 (sent c p older)) e older (numbered c p older).within)
+        ∙ before
+        ∙ sym value
+
+    by_sent : (t : Commit) (b : Bool) → committed e ≡ Some t → is_subscribed c.tabs t.context p ≡ b → Shows
+    by_sent t true h goes =
+        let last : last_entry 0 (sent c p (e ∷ older)) ≡ suc (length older) = ap (last_entry 0) (sent_if c p t e older true goes h) ∙ last_of 0 (suc (length older)) t (sent c p older) in
+        ap (λ k. value_at x f (up_to k (e ∷ older))) last ∙ ap (value_at x f) (up_to_all e older)
+    by_sent t false h stays = unsent (sent_if c p t e older false stays h ∙ append-nil (sent c p older)) (other_value x f t e older h (not_same c.tabs t.context x p (same_context t.context x) refl stays s))
+
+    by_commit : (o : Option Commit) → committed e ≡ o → Shows
+    by_commit None h = unsent (silent_sent c p e older h) (silent_value x f e older h)
+    by_commit (Some t) h = by_sent t (is_subscribed c.tabs t.context p) h refl
+
+-- nothing was accepted for the context after the last bundle of a subscribed process was sent
+pub none_unsent : (c : Config) (p : ℕ) (x : ContextId) (f : Field) (j : Journal) → is_subscribed c.tabs x p ≡ true → value_at x f (up_to (last_entry 0 (sent c p j)) j) ≡ value_at x f j
 unfolding sent
-none_unsent c p f [] s = refl
-none_unsent c p f (e ∷ older) s =
-    elim (committed e) as (λ o. committed e ≡ o → value_at f (up_to (last_entry 0 (sent c p (e ∷ older))) (e ∷ older)) ≡ value_at f (e ∷ older)) [
-      | None ↦ λ h.
-          let last : last_entry 0 (sent c p (e ∷ older)) ≡ last_entry 0 (sent c p older) = ap (last_entry 0) (silent_sent c p e older h) in
-          ap (λ k. value_at f (up_to k (e ∷ older))) last
-          ∙ ap (value_at f) (up_to_older (last_entry 0 (sent c p older)) e older (numbered c p older).within)
-          ∙ none_unsent c p f older s
-          ∙ sym (silent_value f e older h)
-      | Some t ↦ λ h.
-          let last : last_entry 0 (sent c p (e ∷ older)) ≡ suc (length older) = ap (last_entry 0) (loud_sent c p t e older s h) ∙ last_of 0 (suc (length older)) t (sent c p older) in
-          ap (λ k. value_at f (up_to k (e ∷ older))) last ∙ ap (value_at f) (up_to_all e older)
-    ] refl
-
-subscribed_live : (tabs : List StartTab) (p : ℕ) → is_subscribed tabs p ≡ true → is_live tabs ≡ true
-subscribed_live [] p s = cc
-subscribed_live (tab ∷ tabs) p s = refl
+none_unsent c p x f [] s = refl
+none_unsent c p x f (e ∷ older) s = unsent_more c p x f e older s (none_unsent c p x f older s)
 
 -- where nothing waits, a subscribed process shows what the parent shows
-pub quiet_view : (c : Config) (p : ℕ) (f : Field) (j : Journal) → waiting c p j ≡ [] → is_subscribed c.tabs p ≡ true → view c p f j ≡ parent_view c f j
-quiet_view c p f j w s =
+pub quiet_view : (c : Config) (p : ℕ) (x : ContextId) (f : Field) (j : Journal) → waiting c p j ≡ [] → is_subscribed c.tabs x p ≡ true → view c p x f j ≡ parent_view c x f j
+quiet_view c p x f j w s =
     let len : length (sent c p j) - taken p j ≡ 0 = sym (length-drop (taken p j) (sent c p j)) ∙ ap (λ (ss : List Sent). length ss) w in
     let all : base c p j ≡ last_entry 0 (sent c p j) = ap (last_entry 0) (take_all (taken p j) (sent c p j) (omega arith)) in
-    let same : value_at f (up_to (base c p j) j) ≡ value_at f j = ap (λ k. value_at f (up_to k j)) all ∙ none_unsent c p f j s in
-    ap (λ (b : Bool). if b then Some (value_at f (up_to (base c p j) j)) else None) s
+    let same : value_at x f (up_to (base c p j) j) ≡ value_at x f j = ap (λ k. value_at x f (up_to k j)) all ∙ none_unsent c p x f j s in
+    ap (λ (b : Bool). if b then Some (value_at x f (up_to (base c p j) j)) else None) s
     ∙ ap (λ (v : Value). Some v) same
-    ∙ sym (ap (λ (b : Bool). if b then Some (value_at f j) else None) (subscribed_live c.tabs p s))
+    ∙ sym (ap (λ (b : Bool). if b then Some (value_at x f j) else None) (subscribed_live c.tabs x p s))
 
 -- a refused entry committed nothing and took nothing
 refused_committed : (e : Entry) → is_accepted e.answer ≡ false → committed e ≡ None
@@ -87,19 +109,19 @@ unfolding taken
 refused_taken p e older h = ap (λ (b : Bool). if b && is_take p e.step then suc (taken p older) else taken p older) h
 
 -- a refused entry changes nothing
-pub refused_unchanged : (c : Config) (p : ℕ) (f : Field) (e : Entry) (j : Journal) → is_accepted e.answer ≡ false → Unchanged c p f e j
-refused_unchanged c p f e j h =
+pub refused_unchanged : (c : Config) (p : ℕ) (x : ContextId) (f : Field) (e : Entry) (j : Journal) → is_accepted e.answer ≡ false → Unchanged c p x f e j
+refused_unchanged c p x f e j h =
     let none : committed e ≡ None = refused_committed e h in
-    let value : value_at f (e ∷ j) ≡ value_at f j = silent_value f e j none in
+    let value : value_at x f (e ∷ j) ≡ value_at x f j = silent_value x f e j none in
     let ss : sent c p (e ∷ j) ≡ sent c p j = silent_sent c p e j none in
     let n : taken p (e ∷ j) ≡ taken p j = refused_taken p e j h in
     let bases : base c p (e ∷ j) ≡ base c p j = ap (λ k. last_entry 0 (take k (sent c p (e ∷ j)))) n ∙ ap (λ (xs : List Sent). last_entry 0 (take (taken p j) xs)) ss in
     let moment : up_to (base c p (e ∷ j)) (e ∷ j) ≡ up_to (base c p j) j = ap (λ k. up_to k (e ∷ j)) bases ∙ up_to_older (base c p j) e j (base_within c p j) in
     record {
       value = value;
-      parent_shows = ap (λ (v : Value). if is_live c.tabs then Some v else None) value;
+      parent_shows = ap (λ (v : Value). if is_live c.tabs x then Some v else None) value;
       waits = ap (λ k. drop k (sent c p (e ∷ j))) n ∙ ap (λ (xs : List Sent). drop (taken p j) xs) ss;
-      shows = ap (λ (m : Journal). if is_subscribed c.tabs p then Some (value_at f m) else None) moment;
+      shows = ap (λ (m : Journal). if is_subscribed c.tabs x p then Some (value_at x f m) else None) moment;
     }
 
 waits : (ss : List Sent) → is_accepted (take_answer ss) ≡ true → 0 < length ss

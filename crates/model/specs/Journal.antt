@@ -1,9 +1,11 @@
 -- A journal, with the newest entry first, and what one entry tells. An entry's number counts from 1.
-use Rattle.std.specs.Prelude.{ℕ, ◌-◌, List, length, drop, Bool, true, false, Option, None, Some, if◌then◌else◌}
+use Rattle.std.specs.Prelude.{ℕ, ◌-◌, ◌==◌, ◌&&◌, List, length, drop, Bool, true, false, Option, None, Some, if◌then◌else◌}
+use Rattle.fission_ids.specs.declared.context.ContextId.{ContextId}
 use Rattle.transaction.specs.Transaction.{Changes}
+use Rattle.wire_msgs.specs.declared.action.ParentAction.{ParentAction}
 use Rattle.wire_msgs.specs.declared.action.ParentAction.TheVariants as actions
 use Rattle.wire_msgs.specs.declared.answer.Answer.{Answer}
-use Rattle.wire_msgs.specs.declared.answer.Answer.TheVariants.{Done, Parts, Refused}
+use Rattle.wire_msgs.specs.declared.answer.Answer.TheVariants.{Refused}
 use Rattle.journal.specs.declared.entry.Step.{Step}
 use Rattle.journal.specs.declared.entry.Step.TheVariants.{ParentAct, Take}
 use Rattle.journal.specs.declared.entry.Entry.{Entry}
@@ -17,15 +19,28 @@ up_to k j = drop (length j - k) j
 
 -- whether an answer is no refusal
 abbrev pub is_accepted : Answer → Bool
-is_accepted Done = true
-is_accepted (Parts notes) = true
 is_accepted (Refused why) = false
+is_accepted answer = true
 
--- the fields that a step would commit
-abbrev pub commit_of : Step → Option Changes
-commit_of (ParentAct (actions.Set t)) = Some t
+-- whether two ids are of one context
+abbrev pub same_context : ContextId → ContextId → Bool
+same_context x y = x.creator == y.creator && x.serial == y.serial
+
+-- new values for fields of a context
+pub record Commit : Type 0 where
+  pub context : ContextId
+  pub change : Changes
+
+-- what an action of the parent would commit
+abbrev pub commit_in : ParentAction → Option Commit
+commit_in (actions.Set x t) = Some (record { context = x; change = t })
+commit_in action = None
+
+-- what a step would commit
+abbrev pub commit_of : Step → Option Commit
+commit_of (ParentAct action) = commit_in action
 commit_of (Take p) = None
 
--- the fields that an entry committed
-abbrev pub committed : Entry → Option Changes
+-- what an entry committed
+abbrev pub committed : Entry → Option Commit
 committed e = if is_accepted e.answer then commit_of e.step else None

@@ -1,11 +1,13 @@
 -- What holds of every journal.
 use Rattle.std.specs.Prelude.{◌≡◌, ℕ, ◌≤◌, [], ◌∷◌, length, true, false}
+use Rattle.fission_ids.specs.declared.context.ContextId.{ContextId}
 use Rattle.field_table.specs.declared.field.Field.{Field}
 use Rattle.wire_msgs.specs.declared.config.Config.{Config}
 use Rattle.journal.specs.declared.entry.Entry.{Entry}
 use Rattle.model.specs.Journal.{Journal, is_accepted}
 use Rattle.model.specs.Values.{value_at}
-use Rattle.model.specs.Links.{is_subscribed, sent, taken, waiting, base}
+use Rattle.model.specs.Tabs.{is_subscribed}
+use Rattle.model.specs.Links.{sent, taken, waiting, base}
 use Rattle.model.specs.View.{view, parent_view}
 use Rattle.model.specs.Next.{Lawful}
 
@@ -15,18 +17,18 @@ BaseNeverFalls = (c : Config) (p : ℕ) (e : Entry) (j : Journal) → base c p j
 
 -- a subscribed process for which nothing waits shows what the parent shows
 abbrev pub QuietShowsTheParent : Type 0
-QuietShowsTheParent = (c : Config) (p : ℕ) (f : Field) (j : Journal) → waiting c p j ≡ [] → is_subscribed c.tabs p ≡ true → view c p f j ≡ parent_view c f j
+QuietShowsTheParent = (c : Config) (p : ℕ) (x : ContextId) (f : Field) (j : Journal) → waiting c p j ≡ [] → is_subscribed c.tabs x p ≡ true → view c p x f j ≡ parent_view c x f j
 
 -- an entry changed nothing of a field and of a process
-pub record Unchanged (c : Config) (p : ℕ) (f : Field) (e : Entry) (j : Journal) : Type 0 where
-  pub value : value_at f (e ∷ j) ≡ value_at f j
-  pub parent_shows : parent_view c f (e ∷ j) ≡ parent_view c f j
+pub record Unchanged (c : Config) (p : ℕ) (x : ContextId) (f : Field) (e : Entry) (j : Journal) : Type 0 where
+  pub value : value_at x f (e ∷ j) ≡ value_at x f j
+  pub parent_shows : parent_view c x f (e ∷ j) ≡ parent_view c x f j
   pub waits : waiting c p (e ∷ j) ≡ waiting c p j
-  pub shows : view c p f (e ∷ j) ≡ view c p f j
+  pub shows : view c p x f (e ∷ j) ≡ view c p x f j
 
 -- a refused step changes nothing
 abbrev pub RefusedChangesNothing : Type 0
-RefusedChangesNothing = (c : Config) (p : ℕ) (f : Field) (e : Entry) (j : Journal) → is_accepted e.answer ≡ false → Unchanged c p f e j
+RefusedChangesNothing = (c : Config) (p : ℕ) (x : ContextId) (f : Field) (e : Entry) (j : Journal) → is_accepted e.answer ≡ false → Unchanged c p x f e j
 
 -- what a process took was sent to it
 abbrev pub TakenWasSent : Type 0

@@ -1,5 +1,6 @@
 pub mod Journal
 pub mod Values
+pub mod Tabs
 pub mod Links
 pub mod View
 pub mod Next

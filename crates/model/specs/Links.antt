@@ -1,32 +1,25 @@
 -- What the parent sent to each process, what the process took of it, and what still waits.
-use Rattle.std.specs.Prelude.{ℕ, suc, ◌==◌, List, [], ◌∷◌, ◌++◌, length, take, drop, Bool, true, false, ◌||◌, ◌&&◌, if◌then◌else◌, Option, None, Some}
-use Rattle.fission_ids.specs.ProcSet.{has}
-use Rattle.transaction.specs.Transaction.{Changes}
+use Rattle.std.specs.Prelude.{ℕ, suc, ◌==◌, List, [], ◌∷◌, ◌++◌, length, take, drop, Bool, false, ◌&&◌, if◌then◌else◌, Option, None, Some}
 use Rattle.wire_msgs.specs.declared.config.Config.{Config}
-use Rattle.wire_msgs.specs.declared.config.StartTab.{StartTab}
 use Rattle.journal.specs.declared.entry.Step.{Step}
 use Rattle.journal.specs.declared.entry.Step.TheVariants as steps
-use Rattle.model.specs.Journal.{Journal, is_accepted, committed}
+use Rattle.model.specs.Journal.{Journal, Commit, is_accepted, committed}
+use Rattle.model.specs.Tabs.{is_subscribed}
 
--- whether the context is there: the one of the first tab
-abbrev pub is_live : List StartTab → Bool
-is_live [] = false
-is_live (tab ∷ tabs) = true
-
--- whether process p is subscribed to the context
-abbrev pub is_subscribed : List StartTab → ℕ → Bool
-is_subscribed [] p = false
-is_subscribed (tab ∷ tabs) p = p == tab.owner.0 || has tab.also p
-
--- a bundle on a link, and the number of the entry that sent it
+-- a bundle on a link, which is one commit, and the number of the entry that sent it
 pub record Sent : Type 0 where
   pub entry : ℕ
-  pub commit : Changes
+  pub commit : Commit
+
+-- whether a commit is sent to process p
+abbrev pub is_sent : Config → ℕ → Option Commit → Bool
+is_sent c p None = false
+is_sent c p (Some commit) = is_subscribed c.tabs commit.context p
 
 -- what an entry with the number k sent to process p
-abbrev pub sent_in : Config → ℕ → ℕ → Option Changes → List Sent
+abbrev pub sent_in : Config → ℕ → ℕ → Option Commit → List Sent
 sent_in c p k None = []
-sent_in c p k (Some t) = if is_subscribed c.tabs p then record { entry = k; commit = t } ∷ [] else []
+sent_in c p k (Some commit) = if is_subscribed c.tabs commit.context p then record { entry = k; commit = commit } ∷ [] else []
 
 -- all that was sent to process p, the oldest first
 unfoldable pub sent : Config → ℕ → Journal → List Sent

@@ -1,17 +1,22 @@
 -- The values that the parent accepted, and by them its value of a field.
-use Rattle.std.specs.Prelude.{[], ◌∷◌, Option, unwrap_or, option_and_then}
+use Rattle.std.specs.Prelude.{[], ◌∷◌, Option, None, unwrap_or, option_and_then, if◌then◌else◌}
+use Rattle.fission_ids.specs.declared.context.ContextId.{ContextId}
 use Rattle.field_table.specs.declared.field.Field.{Field}
 use Rattle.field_table.specs.declared.value.Value.{Value}
 use Rattle.field_table.specs.Field.{initial}
 use Rattle.transaction.specs.Transaction.{written}
 use Rattle.journal.specs.declared.entry.Entry.{Entry}
-use Rattle.model.specs.Journal.{Journal, committed}
+use Rattle.model.specs.Journal.{Journal, Commit, same_context, committed}
 
--- the value of a field that the parent accepted in an entry
-abbrev pub accepted : Field → Entry → Option Value
-accepted f e = option_and_then (λ t. written t f) (committed e)
+-- the value that a commit has for a field of context x
+abbrev pub value_for : ContextId → Field → Commit → Option Value
+value_for x f commit = if same_context commit.context x then written commit.change f else None
+
+-- the value of a field of context x that the parent accepted in an entry
+abbrev pub accepted : ContextId → Field → Entry → Option Value
+accepted x f e = option_and_then (value_for x f) (committed e)
 
 -- the parent's value of a field: the one that it accepted last, else the initial one
-unfoldable pub value_at : Field → Journal → Value
-value_at f [] = initial f
-value_at f (e ∷ older) = unwrap_or (accepted f e) (value_at f older)
+unfoldable pub value_at : ContextId → Field → Journal → Value
+value_at x f [] = initial f
+value_at x f (e ∷ older) = unwrap_or (accepted x f e) (value_at x f older)

@@ -9,7 +9,7 @@ mod laws;
 mod looking;
 
 pub use laws::{base_never_falls, quiet_shows_the_parent, refused_changes_nothing, taken_was_sent};
-pub use looking::{base, is_subscribed, taken, value_at, view};
+pub use looking::{base, is_live, is_of_tab, is_subscribed, tab_of, taken, value_at, view};
 
 #[cfg(test)]
 mod tests;

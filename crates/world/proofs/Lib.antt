@@ -1,4 +1,5 @@
 pub mod Lists
+pub mod Tabs
 pub mod Merging
 pub mod Orders
 pub mod Moves

@@ -2,7 +2,7 @@
 use Rattle.std.proofs.Common.{◌≡◌, ◌≢◌, ℕ, zero, suc, ◌+◌, ◌<◌, ◌≤◌, List, [], ◌∷◌, ◌++◌, length, map, take, drop, get_or, set, refl, sym, ap, ap₂, ◌∙◌, get_or-drop, arith}
 use Rattle.std.proofs.lemmas.List.{get_or-map, take_more, take_more_set, map-append}
 use Rattle.std.proofs.Math.Seq.{take-append_seam}
-use Rattle.world.specs.Stands.{numbers}
+use Rattle.world.specs.Places.{numbers}
 
 pub map-same : {A B : Type 0} (f g : A → B) → ((x : A) → f x ≡ g x) → (xs : List A) → map f xs ≡ map g xs
 map-same f g same [] = refl

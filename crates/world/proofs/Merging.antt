@@ -1,61 +1,36 @@
 -- Changes merged into the parent's values are its values after the entry that commits them.
-use Rattle.std.proofs.Common.{◌≡◌, ℕ, suc, ◌+◌, List, [], ◌∷◌, map, drop, get_or, Option, Some, None, unwrap_or, option_and_then, refl, sym, ap, ap₂, ◌∙◌, get_or-drop, add-one, arith}
-use Rattle.std.proofs.lemmas.List.{drop-drop}
-use Rattle.field_table.specs.declared.field.Field.{Field}
-use Rattle.field_table.specs.declared.field.Field.TheVariants.{Closed, Muted, AllowContentRetargeting, IsInBFCache, Loading}
-use Rattle.field_table.specs.declared.value.Value.{Value}
-use Rattle.field_table.specs.Field.{fields, number}
-use Rattle.field_table.specs.Table.{Table, initial_table, value_in}
+use Rattle.std.proofs.Common.{◌≡◌, [], ◌∷◌, map, Bool, true, false, if◌then◌else◌, Option, Some, None, unwrap_or, option_and_then, refl, sym}
+use Rattle.fission_ids.specs.declared.context.ContextId.{ContextId}
+use Rattle.field_table.specs.Field.{fields}
+use Rattle.field_table.specs.Table.{Table, initial_table}
 use Rattle.transaction.specs.Transaction.{Changes, written, merged}
+use Rattle.transaction.proofs.Merging.{merged_map}
 use Rattle.journal.specs.declared.entry.Entry.{Entry}
-use Rattle.model.specs.Journal.{Journal, committed}
-use Rattle.model.specs.Values.{value_at}
+use Rattle.model.specs.Journal.{Journal, Commit, same_context, committed}
+use Rattle.model.specs.Values.{value_for, value_at}
 use Rattle.world.specs.Stands.{table_at}
 
--- fields that stand in the order of their numbers, from k on
-abbrev Numbered : ℕ → List Field → Type 0
-Numbered k [] = Unit {0}
-Numbered k (f ∷ fs) = (number f ≡ k) × Numbered (suc k) fs
+-- a table of context x with a commit applied
+abbrev pub applied : ContextId → Commit → Table → Table
+applied x m table = if same_context m.context x then merged m.change table else table
 
-one_merged : (cs : Changes) (v : Value) (vs : List Value) → merged cs (v ∷ vs) ≡ unwrap_or (get_or cs 0 None) v ∷ merged (drop 1 cs) vs
-one_merged [] v vs = refl
-one_merged (c ∷ cs) v vs = refl
+-- the table of context x after an entry that commits this, or nothing
+abbrev pub table_after : ContextId → Option Commit → Table → Table
+table_after x None table = table
+table_after x (Some m) table = applied x m table
 
-merged_map : (t : Changes) (g : Field → Value) (k : ℕ) (fs : List Field) → Numbered k fs → merged (drop k t) (map g fs) ≡ map (λ f. unwrap_or (written t f) (g f)) fs
-merged_map t g k [] at = none (drop k t)
-  where
-    none : (cs : Changes) → merged cs [] ≡ []
-    none [] = refl
-    none (c ∷ cs) = refl
-merged_map t g k (f ∷ fs) at =
-    let here : k + 0 ≡ k = omega arith in
-    let read : get_or (drop k t) 0 None ≡ written t f = get_or-drop k t 0 None ∙ ap (λ i. get_or t i None) (here ∙ sym at.0) in
-    let next : drop 1 (drop k t) ≡ drop (suc k) t = rw add-one at (drop-drop 1 k t) in
-    one_merged (drop k t) (g f) (map g fs)
-    ∙ ap₂ (λ c l. unwrap_or c (g f) ∷ merged l (map g fs)) read next
-    ∙ ap (λ l. unwrap_or (written t f) (g f) ∷ l) (merged_map t g (suc k) fs at.1)
-
--- the table after an entry that commits this, or nothing
-abbrev pub table_after : Option Changes → Table → Table
-table_after None table = table
-table_after (Some t) table = merged t table
-
-pub table_more : (e : Entry) (j : Journal) → table_at (e ∷ j) ≡ table_after (committed e) (table_at j)
+pub table_more : (x : ContextId) (e : Entry) (j : Journal) → table_at x (e ∷ j) ≡ table_after x (committed e) (table_at x j)
 unfolding value_at
-table_more e j = by_commit (committed e)
+table_more x e j = by_commit (committed e)
   where
-    by_commit : (o : Option Changes) → map (λ f. unwrap_or (option_and_then (λ t. written t f) o) (value_at f j)) fields ≡ table_after o (table_at j)
+    by_context : (b : Bool) (t : Changes) → map (λ f. unwrap_or (if b then written t f else None) (value_at x f j)) fields ≡ (if b then merged t (table_at x j) else table_at x j)
+    by_context true t = sym (merged_map t (λ f. value_at x f j))
+    by_context false t = refl
+
+    by_commit : (o : Option Commit) → map (λ f. unwrap_or (option_and_then (value_for x f) o) (value_at x f j)) fields ≡ table_after x o (table_at x j)
     by_commit None = refl
-    by_commit (Some t) = sym (merged_map t (λ f. value_at f j) 0 fields (refl, (refl, (refl, (refl, (refl, tt))))))
+    by_commit (Some m) = by_context (same_context m.context x) m.change
 
-pub table_start : table_at [] ≡ initial_table
+pub table_start : (x : ContextId) → table_at x [] ≡ initial_table
 unfolding value_at
-table_start = refl
-
--- what a table of a value for each field has of a field
-pub value_in-map : (g : Field → Value) (f : Field) → value_in (map g fields) f ≡ g f
-value_in-map g Closed = refl
-value_in-map g Muted = refl
-value_in-map g AllowContentRetargeting = refl
-value_in-map g IsInBFCache = refl
-value_in-map g Loading = refl
+table_start x = refl

@@ -1,36 +1,36 @@
 -- How each entry moves what the parent and the processes have.
-use Rattle.std.proofs.Common.{◌≡◌, ℕ, suc, ◌<◌, ◌≤◌, List, [], ◌∷◌, ◌++◌, length, map, take, drop, Bool, true, false, cond, ◌&&◌, eqb, eqb-true, Option, Some, None, refl, sym, ap, ap₂, subst, ◌∙◌, length-append, arith}
+use Rattle.std.proofs.Common.{◌≡◌, ℕ, suc, ◌≤◌, List, [], ◌∷◌, ◌++◌, length, map, take, drop, get_or, Bool, true, false, cond, ◌&&◌, Option, Some, None, is_some, refl, sym, ap, ap₂, subst, ◌∙◌}
+use Rattle.std.specs.Prelude.{option_map}
 use Rattle.std.proofs.lemmas.List.{append-nil, map-append, take-append-le, drop-append-le}
+use Rattle.fission_ids.specs.declared.context.ContextId.{ContextId}
 use Rattle.field_table.specs.Table.{Table}
-use Rattle.transaction.specs.Transaction.{Changes}
-use Rattle.wire_msgs.specs.declared.answer.Answer.{Answer}
+use Rattle.transaction.specs.Transaction.{merged}
+use Rattle.wire_msgs.specs.declared.bundle.DownBundle.{DownBundle}
 use Rattle.wire_msgs.specs.declared.config.Config.{Config}
-use Rattle.journal.specs.declared.entry.Step.{Step}
-use Rattle.journal.specs.declared.entry.Step.TheVariants.{ParentAct, Take}
+use Rattle.wire_msgs.specs.declared.config.StartTab.{StartTab}
 use Rattle.journal.specs.declared.entry.Entry.{Entry}
-use Rattle.model.specs.Journal.{Journal, up_to, is_accepted, committed}
-use Rattle.model.specs.Links.{Sent, is_subscribed, sent_in, sent, is_take, taken, waiting, last_entry, base}
-use Rattle.model.specs.Next.{take_answer, answer_of, Lawful}
-use Rattle.world.specs.declared.side.Side.{Side}
-use Rattle.world.specs.Side.{sent_side, taken_side, first_merged, rest_of}
-use Rattle.world.specs.Stands.{table_at, side_of}
-use Rattle.world.proofs.Lists.{cut_within, cut_more}
-use Rattle.world.proofs.Merging.{table_after, table_more}
-use Rattle.world.proofs.Orders.{Follows, Agree, follows_more, follows_cut, last_within, last_more, tables, up_to-all, tables_agree}
+use Rattle.model.specs.Journal.{Journal, Commit, up_to, is_accepted, same_context, committed}
+use Rattle.model.specs.Tabs.{is_live, is_subscribed}
+use Rattle.model.specs.Links.{Sent, sent_in, sent, is_take, taken, waiting, last_entry, base}
+use Rattle.model.specs.Next.{take_answer}
+use Rattle.model.proofs.Bundles.{base_within}
+use Rattle.world.specs.Places.{numbers, nth_context, place_of, by_tab}
+use Rattle.world.specs.Side.{bundle_of, held_in, applied_in, first_applied, rest_of, sent_side, taken_side, committed_parent}
+use Rattle.world.specs.Stands.{table_at, parent_of, held_at, side_of}
+use Rattle.world.proofs.Lists.{map-same, cut_more}
+use Rattle.model.proofs.Contexts.{subscribed_live}
+use Rattle.world.proofs.Tabs.{IsPlaced, placed, same_itself, get_or-by_tab, set-by_tab}
+use Rattle.world.proofs.Merging.{applied, table_after, table_more}
+use Rattle.world.proofs.Orders.{Follows, tables, up_to-before, tables_agree, follows, follows_cut, last_more, AreSubscribed, are_subscribed, subscribed_cut}
 
--- what process p took and was sent is in order
-pub record Orderly (c : Config) (p : ℕ) (j : Journal) : Type 0 where
-  pub fits : taken p j ≤ length (sent c p j)
-  pub follows : Follows (is_subscribed c.tabs p) (tables j) (length j) 0 (sent c p j)
+no_take : (accepted : Bool) (n : ℕ) → cond (accepted && false) (suc n) n ≡ n
+no_take true n = refl
+no_take false n = refl
 
 -- how many are taken where this waits
 abbrev taken_of : List Sent → ℕ → ℕ
 taken_of [] n = n
 taken_of (s ∷ ss) n = suc n
-
-no_take : (accepted : Bool) (n : ℕ) → cond (accepted && false) (suc n) n ≡ n
-no_take true n = refl
-no_take false n = refl
 
 one_take : (ws : List Sent) (n : ℕ) → cond (is_accepted (take_answer ws) && true) (suc n) n ≡ taken_of ws n
 one_take [] n = refl
@@ -48,109 +48,139 @@ sent_more : (c : Config) (p : ℕ) (e : Entry) (j : Journal) → sent c p (e ∷
 unfolding sent
 sent_more c p e j = refl
 
-tables_more : (e : Entry) (j : Journal) → tables (e ∷ j) (suc (length j)) ≡ table_after (committed e) (tables j (length j))
-tables_more e j = ap table_at (up_to-all (e ∷ j)) ∙ table_more e j ∙ ap (λ l. table_after (committed e) (table_at l)) (sym (up_to-all j))
+sent_none : (c : Config) (p : ℕ) (e : Entry) (j : Journal) → committed e ≡ None → sent c p (e ∷ j) ≡ sent c p j
+sent_none c p e j none = sent_more c p e j ∙ ap (λ (o : Option Commit). sent c p j ++ sent_in c p (suc (length j)) o) none ∙ append-nil (sent c p j)
 
-orderly_more : (c : Config) (p : ℕ) (e : Entry) (j : Journal) → Orderly c p j → taken p (e ∷ j) ≤ length (sent c p j) → Orderly c p (e ∷ j)
-orderly_more c p e j o took = record {
-  fits = rw (sent_more, length-append) (omega arith);
-  follows = rw sent_more (follows_more c p (committed e) (tables j) (tables (e ∷ j)) (length j) (sent c p j) (tables_agree e j) (tables_more e j) o.follows);
-}
+-- a process's base and what waits for it, after an entry that is no take of its own
 
-taken_fits : (n : ℕ) (ss ws : List Sent) → drop n ss ≡ ws → n ≤ length ss → taken_of ws n ≤ length ss
-taken_fits n ss [] e within = within
-taken_fits n ss (w ∷ ws) e within = let more : n < length ss = cut_within n ss w ws e in omega arith
+base_other : (c : Config) (p : ℕ) (e : Entry) (j : Journal) → is_take p e.step ≡ false → taken p j ≤ length (sent c p j) → base c p (e ∷ j) ≡ base c p j
+base_other c p e j other fits =
+    ap₂ (λ (n : ℕ) (ss : List Sent). last_entry 0 (take n ss)) (taken_other p e j other) (sent_more c p e j)
+    ∙ ap (last_entry 0) (take-append-le (taken p j) (sent c p j) (sent_in c p (suc (length j)) (committed e)) fits)
 
--- whether a step is a take of p, and by the answer how many p took then
-took_fits : (c : Config) (p : ℕ) (s : Step) (a : Answer) (j : Journal) → a ≡ answer_of c j s → Orderly c p j → taken p (record { step = s; answer = a } ∷ j) ≤ length (sent c p j)
-took_fits c p (ParentAct action) a j answer o = rw (taken_other p (record { step = ParentAct action; answer = a }) j refl) o.fits
-took_fits c p (Take q) a j answer o = by_process (eqb q.0 p) refl
-  where
-    by_process : (b : Bool) → eqb q.0 p ≡ b → taken p (record { step = Take q; answer = a } ∷ j) ≤ length (sent c p j)
-    by_process false other = rw (taken_other p (record { step = Take q; answer = a }) j other) o.fits
-    by_process true own =
-        let same : q.0 ≡ p = eqb-true q.0 p own in
-        let answer_own : a ≡ take_answer (waiting c p j) = answer ∙ ap (λ n. take_answer (waiting c n j)) same in
-        rw (taken_own p (record { step = Take q; answer = a }) j (waiting c p j) own answer_own) (taken_fits (taken p j) (sent c p j) (waiting c p j) refl o.fits)
+waiting_other : (c : Config) (p : ℕ) (e : Entry) (j : Journal) → is_take p e.step ≡ false → taken p j ≤ length (sent c p j) → waiting c p (e ∷ j) ≡ waiting c p j ++ sent_in c p (suc (length j)) (committed e)
+waiting_other c p e j other fits =
+    ap₂ (λ (n : ℕ) (ss : List Sent). drop n ss) (taken_other p e j other) (sent_more c p e j)
+    ∙ drop-append-le (taken p j) (sent c p j) (sent_in c p (suc (length j)) (committed e)) fits
 
-pub orderly : (c : Config) (p : ℕ) (j : Journal) → Lawful c j → Orderly c p j
-unfolding Lawful taken sent
-orderly c p [] lawful = record { fits = omega arith; follows = λ is. refl }
-orderly c p (e ∷ j) lawful = let o : Orderly c p j = orderly c p j lawful.1 in orderly_more c p e j o (took_fits c p e.step e.answer j lawful.0 o)
+-- the table that a process has of a context stays where its base does
+held_still : (c : Config) (p : ℕ) (x : ContextId) (e : Entry) (j : Journal) → base c p (e ∷ j) ≡ base c p j → held_at c (e ∷ j) p x ≡ held_at c j p x
+held_still c p x e j same =
+    let moment : up_to (base c p (e ∷ j)) (e ∷ j) ≡ up_to (base c p j) j = ap (λ k. up_to k (e ∷ j)) same ∙ up_to-before e j (base c p j) (base_within c p j) in
+    ap (λ (m : Journal). cond (is_subscribed c.tabs x p) (Some (table_at x m)) None) moment
 
--- what a process has that took m of these
-abbrev made : Bool → (ℕ → Table) → ℕ → List Sent → Side
-made b at m ss = record { holds = b; fields = at (last_entry 0 (take m ss)); link = map (λ s. s.commit) (drop m ss) }
+tables_still : (c : Config) (p : ℕ) (e : Entry) (j : Journal) → base c p (e ∷ j) ≡ base c p j → by_tab (held_at c (e ∷ j) p) c.tabs ≡ by_tab (held_at c j p) c.tabs
+tables_still c p e j same =
+    map-same (λ n. held_at c (e ∷ j) p (nth_context n)) (λ n. held_at c j p (nth_context n)) (λ n. held_still c p (nth_context n) e j same) (numbers 0 (length c.tabs))
 
--- this was sent to a process, or nothing
-abbrev pub sent_to : Option Changes → Side → Side
-sent_to None s = s
-sent_to (Some t) s = sent_side t s
+-- the bundles on a link that were sent so
+abbrev on_link : List Sent → List DownBundle
+on_link ss = map (λ s. bundle_of s.commit) ss
 
-made_append : (b : Bool) (old new : ℕ → Table) (n m : ℕ) (ss more : List Sent) → Agree n old new → m ≤ length ss → last_entry 0 (take m ss) ≤ n
-    → made b new m (ss ++ more) ≡ record { holds = b; fields = old (last_entry 0 (take m ss)); link = map (λ s. s.commit) (drop m ss) ++ map (λ s. s.commit) more }
-made_append b old new n m ss more agree fits within =
-    let table : new (last_entry 0 (take m (ss ++ more))) ≡ old (last_entry 0 (take m ss)) = ap (λ l. new (last_entry 0 l)) (take-append-le m ss more fits) ∙ agree _ within in
-    let link : map (λ (s : Sent). s.commit) (drop m (ss ++ more)) ≡ map (λ s. s.commit) (drop m ss) ++ map (λ s. s.commit) more =
-    ap (map (λ s. s.commit)) (drop-append-le m ss more fits) ∙ map-append (λ s. s.commit) (drop m ss) more in
-    ap₂ (λ (t : Table) (l : List Changes). record { holds = b; fields = t; link = l }) table link
+-- a process after an entry that committed nothing and took none of its bundles
+pub side_still : (c : Config) (p : ℕ) (e : Entry) (j : Journal) → is_take p e.step ≡ false → committed e ≡ None → taken p j ≤ length (sent c p j) → side_of c (e ∷ j) p ≡ side_of c j p
+side_still c p e j other none fits =
+    let link : waiting c p (e ∷ j) ≡ waiting c p j =
+    waiting_other c p e j other fits ∙ ap (λ (o : Option Commit). waiting c p j ++ sent_in c p (suc (length j)) o) none ∙ append-nil (waiting c p j) in
+    ap₂ (λ (t : List (Option Table)) (ws : List Sent). record { tables = t; link = on_link ws }) (tables_still c p e j (base_other c p e j other fits)) link
 
-made_still : (b : Bool) (old new : ℕ → Table) (n m : ℕ) (ss : List Sent) → Agree n old new → m ≤ length ss → last_entry 0 (take m ss) ≤ n
-    → made b new m (ss ++ []) ≡ made b old m ss
-made_still b old new n m ss agree fits within =
-    made_append b old new n m ss [] agree fits within
-    ∙ ap (λ (l : List Changes). record { holds = b; fields = old (last_entry 0 (take m ss)); link = l }) (append-nil (map (λ s. s.commit) (drop m ss)))
+-- what is put on a link, by whether the process holds the context
+link_if : (b : Bool) (t : Table) (n : ℕ) (m : Commit) (ws : List Sent) → on_link (ws ++ cond b (record { entry = n; commit = m } ∷ []) []) ≡ cond (is_some (cond b (Some t) None)) (on_link ws ++ bundle_of m ∷ []) (on_link ws)
+link_if true t n m ws = map-append (λ (s : Sent). bundle_of s.commit) ws (record { entry = n; commit = m } ∷ [])
+link_if false t n m ws = ap on_link (append-nil ws)
 
-made_if : (b : Bool) (t : Changes) (old new : ℕ → Table) (n m : ℕ) (ss : List Sent) → Agree n old new → m ≤ length ss → last_entry 0 (take m ss) ≤ n
-    → made b new m (ss ++ cond b (record { entry = suc n; commit = t } ∷ []) []) ≡ sent_side t (made b old m ss)
-made_if true t old new n m ss agree fits within = made_append true old new n m ss (record { entry = suc n; commit = t } ∷ []) agree fits within
-made_if false t old new n m ss agree fits within = made_still false old new n m ss agree fits within
+-- a process after an entry that committed something of a live context
+pub side_sent : (c : Config) (p : ℕ) (e : Entry) (j : Journal) (m : Commit) → is_take p e.step ≡ false → committed e ≡ Some m → is_live c.tabs m.context ≡ true → taken p j ≤ length (sent c p j)
+    → side_of c (e ∷ j) p ≡ sent_side m (side_of c j p)
+side_sent c p e j m other commits live fits =
+    let x = m.context in
+    let old = by_tab (held_at c j p) c.tabs in
+    let waits : waiting c p (e ∷ j) ≡ waiting c p j ++ sent_in c p (suc (length j)) (Some m) =
+    waiting_other c p e j other fits ∙ ap (λ (o : Option Commit). waiting c p j ++ sent_in c p (suc (length j)) o) commits in
+    let held : held_in x old ≡ held_at c j p x = get_or-by_tab (held_at c j p) c.tabs x None (placed c.tabs x live) in
+    let link : on_link (waiting c p (e ∷ j)) ≡ cond (is_some (held_in x old)) (on_link (waiting c p j) ++ bundle_of m ∷ []) (on_link (waiting c p j)) =
+    ap on_link waits
+    ∙ link_if (is_subscribed c.tabs x p) (table_at x (up_to (base c p j) j)) (suc (length j)) m (waiting c p j)
+    ∙ ap (λ (o : Option Table). cond (is_some o) (on_link (waiting c p j) ++ bundle_of m ∷ []) (on_link (waiting c p j))) (sym held) in
+    ap₂ (λ (t : List (Option Table)) (bs : List DownBundle). record { tables = t; link = bs }) (tables_still c p e j (base_other c p e j other fits)) link
 
-made_sent : (c : Config) (p : ℕ) (o : Option Changes) (old new : ℕ → Table) (n m : ℕ) (ss : List Sent) → Agree n old new → m ≤ length ss → last_entry 0 (take m ss) ≤ n
-    → made (is_subscribed c.tabs p) new m (ss ++ sent_in c p (suc n) o) ≡ sent_to o (made (is_subscribed c.tabs p) old m ss)
-made_sent c p None old new n m ss agree fits within = made_still (is_subscribed c.tabs p) old new n m ss agree fits within
-made_sent c p (Some t) old new n m ss agree fits within = made_if (is_subscribed c.tabs p) t old new n m ss agree fits within
+-- a table that is held, with a commit applied
+held_if : (b : Bool) (x : ContextId) (m : Commit) (old new : Table) → (b ≡ true → new ≡ applied x m old) → cond b (Some new) None ≡ option_map (applied x m) (cond b (Some old) None)
+held_if true x m old new h = ap Some (h refl)
+held_if false x m old new h = refl
 
--- one bundle more was taken
-made_taken : (b : Bool) (old new : ℕ → Table) (n m : ℕ) (ss : List Sent) (w : Sent) (ws : List Sent) → Agree n old new → Follows b old n 0 ss → drop m ss ≡ w ∷ ws
-    → made b new (suc m) ss ≡ taken_side (made b old m ss)
-made_taken b old new n m ss w ws agree follows cut =
-    let led : Follows b old n (last_entry 0 (take m ss)) (w ∷ ws) = subst (Follows b old n (last_entry 0 (take m ss))) cut (follows_cut b old n 0 m ss follows) in
-    let table : new (last_entry 0 (take (suc m) ss)) ≡ first_merged (map (λ s. s.commit) (drop m ss)) (old (last_entry 0 (take m ss))) =
-    ap new (last_more 0 m ss w ws cut) ∙ agree w.entry led.0 ∙ led.1 ∙ ap (λ (l : List Sent). first_merged (map (λ s. s.commit) l) (old (last_entry 0 (take m ss)))) (sym cut) in
-    let link : map (λ (s : Sent). s.commit) (drop (suc m) ss) ≡ rest_of (map (λ s. s.commit) (drop m ss)) =
-    ap (map (λ s. s.commit)) (cut_more m ss w ws cut) ∙ ap (λ (l : List Sent). rest_of (map (λ s. s.commit) l)) (sym cut) in
-    ap₂ (λ (t : Table) (l : List Changes). record { holds = b; fields = t; link = l }) table link
+-- the table that a process has of a context after it took a commit
+held_took : (c : Config) (p : ℕ) (x : ContextId) (e : Entry) (j : Journal) (w : Sent) (ws : List Sent) → is_take p e.step ≡ true → committed e ≡ None → e.answer ≡ take_answer (w ∷ ws)
+    → waiting c p j ≡ w ∷ ws → held_at c (e ∷ j) p x ≡ option_map (applied x w.commit) (held_at c j p x)
+held_took c p x e j w ws own none answer waits =
+    held_if (is_subscribed c.tabs x p) x w.commit (tables x j (base c p j)) (tables x (e ∷ j) (base c p (e ∷ j)))
+    (λ subscribed.
+    let led : Follows x (tables x j) (length j) (base c p j) (w ∷ ws) =
+    subst (Follows x (tables x j) (length j) (base c p j)) waits (follows_cut x (tables x j) (length j) 0 (taken p j) (sent c p j) (follows c p x j subscribed)) in
+    let moved : base c p (e ∷ j) ≡ w.entry =
+    ap₂ (λ (n : ℕ) (ss : List Sent). last_entry 0 (take n ss)) (taken_own p e j (w ∷ ws) own answer) (sent_none c p e j none)
+    ∙ last_more 0 (taken p j) (sent c p j) w ws waits in
+    ap (tables x (e ∷ j)) moved ∙ tables_agree x e j w.entry led.0 ∙ led.1)
 
-nothing_taken : (b : Bool) (t : Table) (ws : List Sent) → ws ≡ [] → record { holds = b; fields = t; link = map (λ s. s.commit) ws } ≡ taken_side (record { holds = b; fields = t; link = map (λ s. s.commit) ws })
-nothing_taken b t [] e = refl
-nothing_taken b t (w ∷ ws) e = cc
+-- a commit changes the table of its own context
+applied_own : (m : Commit) (o : Option Table) → option_map (merged m.change) o ≡ option_map (applied m.context m) o
+applied_own m None = refl
+applied_own m (Some t) = ap (λ b. Some (cond b (merged m.change t) t)) (sym (same_itself m.context))
 
-base_within : (c : Config) (p : ℕ) (j : Journal) → Orderly c p j → base c p j ≤ length j
-base_within c p j o = last_within (is_subscribed c.tabs p) (tables j) (length j) 0 (taken p j) (sent c p j) (omega arith) o.follows
+-- a commit leaves the table of another context
+applied_other : (m : Commit) (x : ContextId) (o : Option Table) → same_context m.context x ≡ false → option_map (applied x m) o ≡ o
+applied_other m x None other = refl
+applied_other m x (Some t) other = ap (λ b. Some (cond b (merged m.change t) t)) other
 
--- a process after a step that is no take of its own
-pub side_sent : (c : Config) (p : ℕ) (e : Entry) (j : Journal) → is_take p e.step ≡ false → Orderly c p j → side_of c (e ∷ j) p ≡ sent_to (committed e) (side_of c j p)
-side_sent c p e j other o =
-    ap₂ (made (is_subscribed c.tabs p) (tables (e ∷ j))) (taken_other p e j other) (sent_more c p e j)
-    ∙ made_sent c p (committed e) (tables j) (tables (e ∷ j)) (length j) (taken p j) (sent c p j) (tables_agree e j) o.fits (base_within c p j o)
+-- the tables of a process after it took a commit of a live context
+tables_took : (tabs : List StartTab) (m : Commit) (old new : ContextId → Option Table) → IsPlaced tabs m.context → ((x : ContextId) → new x ≡ option_map (applied x m) (old x))
+    → by_tab new tabs ≡ applied_in (Some m) (by_tab old tabs)
+tables_took tabs m old new at took =
+    let x = m.context in
+    let own : option_map (merged m.change) (held_in x (by_tab old tabs)) ≡ new x =
+    ap (λ (o : Option Table). option_map (merged m.change) o) (get_or-by_tab old tabs x None at) ∙ applied_own m (old x) ∙ sym (took x) in
+    sym (set-by_tab old new tabs x (option_map (merged m.change) (held_in x (by_tab old tabs))) at own (λ y other. took y ∙ applied_other m y (old y) other))
 
 -- a process after a take of its own
-pub side_took : (c : Config) (p : ℕ) (e : Entry) (j : Journal) → is_take p e.step ≡ true → committed e ≡ None → e.answer ≡ take_answer (waiting c p j) → Orderly c p j
-    → side_of c (e ∷ j) p ≡ taken_side (side_of c j p)
-side_took c p e j own none answer o = by_waiting (waiting c p j) refl
+pub side_took : (c : Config) (p : ℕ) (e : Entry) (j : Journal) → is_take p e.step ≡ true → committed e ≡ None → e.answer ≡ take_answer (waiting c p j) → side_of c (e ∷ j) p ≡ taken_side (side_of c j p)
+side_took c p e j own none answer = by_waiting (waiting c p j) refl
   where
-    b : Bool
-    b = is_subscribed c.tabs p
+    old : List (Option Table)
+    old = by_tab (held_at c j p) c.tabs
 
-    sent_same : sent c p (e ∷ j) ≡ sent c p j ++ []
-    sent_same = sent_more c p e j ∙ ap (λ (o : Option Changes). sent c p j ++ sent_in c p (suc (length j)) o) none
+    Took : List Sent → Type 0
+    Took ws = side_of c (e ∷ j) p ≡ record { tables = first_applied (on_link ws) old; link = rest_of (on_link ws) }
 
     by_waiting : (ws : List Sent) → waiting c p j ≡ ws → side_of c (e ∷ j) p ≡ taken_side (side_of c j p)
-    by_waiting [] cut =
-        ap₂ (made b (tables (e ∷ j))) (taken_own p e j [] own (answer ∙ ap take_answer cut)) sent_same
-        ∙ made_still b (tables j) (tables (e ∷ j)) (length j) (taken p j) (sent c p j) (tables_agree e j) o.fits (base_within c p j o)
-        ∙ nothing_taken b (table_at (up_to (base c p j) j)) (waiting c p j) cut
-    by_waiting (w ∷ ws) cut =
-        ap₂ (made b (tables (e ∷ j))) (taken_own p e j (w ∷ ws) own (answer ∙ ap take_answer cut)) (sent_same ∙ append-nil (sent c p j))
-        ∙ made_taken b (tables j) (tables (e ∷ j)) (length j) (taken p j) (sent c p j) w ws (tables_agree e j) o.follows cut
+    by_waiting [] waits =
+        let count : taken p (e ∷ j) ≡ taken p j = taken_own p e j [] own (answer ∙ ap take_answer waits) in
+        let bases : base c p (e ∷ j) ≡ base c p j = ap₂ (λ (n : ℕ) (ss : List Sent). last_entry 0 (take n ss)) count (sent_none c p e j none) in
+        let rest : waiting c p (e ∷ j) ≡ [] = ap₂ (λ (n : ℕ) (ss : List Sent). drop n ss) count (sent_none c p e j none) ∙ waits in
+        subst Took (sym waits) (ap₂ (λ (t : List (Option Table)) (ws : List Sent). record { tables = t; link = on_link ws }) (tables_still c p e j bases) rest)
+    by_waiting (w ∷ ws) waits =
+        let count : taken p (e ∷ j) ≡ suc (taken p j) = taken_own p e j (w ∷ ws) own (answer ∙ ap take_answer waits) in
+        let rest : waiting c p (e ∷ j) ≡ ws =
+        ap₂ (λ (n : ℕ) (ss : List Sent). drop n ss) count (sent_none c p e j none) ∙ cut_more (taken p j) (sent c p j) w ws waits in
+        let all : AreSubscribed c p (w ∷ ws) = subst (AreSubscribed c p) waits (subscribed_cut c p (taken p j) (sent c p j) (are_subscribed c p j)) in
+        let at : IsPlaced c.tabs w.commit.context = placed c.tabs w.commit.context (subscribed_live c.tabs w.commit.context p all.0) in
+        let tables : by_tab (held_at c (e ∷ j) p) c.tabs ≡ applied_in (Some w.commit) old =
+        tables_took c.tabs w.commit (held_at c j p) (held_at c (e ∷ j) p) at (λ x. held_took c p x e j w ws own none (answer ∙ ap take_answer waits) waits) in
+        subst Took (sym waits) (ap₂ (λ (t : List (Option Table)) (ws : List Sent). record { tables = t; link = on_link ws }) tables rest)
+
+-- the parent after an entry that committed nothing
+pub parent_still : (c : Config) (e : Entry) (j : Journal) → committed e ≡ None → parent_of c (e ∷ j) ≡ parent_of c j
+parent_still c e j none =
+    map-same (λ n. table_at (nth_context n) (e ∷ j)) (λ n. table_at (nth_context n) j)
+    (λ n. table_more (nth_context n) e j ∙ ap (λ (o : Option Commit). table_after (nth_context n) o (table_at (nth_context n) j)) none) (numbers 0 (length c.tabs))
+
+-- the parent after an entry that committed something of a live context
+pub parent_more : (c : Config) (e : Entry) (j : Journal) (m : Commit) → committed e ≡ Some m → is_live c.tabs m.context ≡ true → parent_of c (e ∷ j) ≡ committed_parent m (parent_of c j)
+parent_more c e j m commits live =
+    let x = m.context in
+    let at : IsPlaced c.tabs x = placed c.tabs x live in
+    let more : (y : ContextId) → table_at y (e ∷ j) ≡ applied y m (table_at y j) = λ y. table_more y e j ∙ ap (λ (o : Option Commit). table_after y o (table_at y j)) commits in
+    let own : merged m.change (get_or (parent_of c j) (place_of x) []) ≡ table_at x (e ∷ j) =
+    ap (merged m.change) (get_or-by_tab (λ y. table_at y j) c.tabs x [] at)
+    ∙ ap (λ b. cond b (merged m.change (table_at x j)) (table_at x j)) (sym (same_itself x))
+    ∙ sym (more x) in
+    sym (set-by_tab (λ y. table_at y j) (λ y. table_at y (e ∷ j)) c.tabs x _ at own (λ y other. more y ∙ ap (λ b. cond b (merged m.change (table_at y j)) (table_at y j)) other))

@@ -1,138 +1,205 @@
 -- A world stands for its journal at the start, and after each step.
-use Rattle.std.proofs.Common.{◌≡◌, ◌≢◌, ℕ, ◌+◌, ◌<◌, List, [], ◌∷◌, length, map, Bool, true, false, cond, eq-eqb, ne_eqb, Option, Some, None, slice_index_or, slice_set, refl, sym, ap, ◌∙◌, arith}
-use Rattle.std.proofs.lemmas.List.{map-id, length-map}
+use Rattle.std.proofs.Common.{◌≡◌, ◌≢◌, ℕ, ◌+◌, ◌<◌, List, [], ◌∷◌, length, map, Bool, true, false, cond, eq-eqb, ne_eqb, Option, Some, None, IsSome, get_or, slice_index_or, slice_set, refl, sym, ap, subst, ◌∙◌, arith}
+use Rattle.std.specs.Prelude.{All, option_map}
+use Rattle.std.proofs.lemmas.List.{length-map}
+use Rattle.std.proofs.lemmas.List.Elements.{All-nil, All-cons, All-map}
 use mathlib.Core.List.{map-map}
+use Rattle.fission_ids.specs.declared.context.ContextId.{ContextId}
+use Rattle.fission_ids.specs.declared.process.ProcId.{ProcId}
 use Rattle.field_table.specs.declared.field.Field.{Field}
 use Rattle.field_table.specs.declared.value.Value.{Value}
+use Rattle.field_table.specs.Field.{fields}
 use Rattle.field_table.specs.Table.{Table, initial_table, value_in}
-use Rattle.fission_ids.specs.declared.process.ProcId.{ProcId}
-use Rattle.transaction.specs.Transaction.{Changes, merged}
+use Rattle.transaction.specs.Transaction.{Changes}
 use Rattle.wire_msgs.specs.declared.action.ParentAction.TheVariants as actions
 use Rattle.wire_msgs.specs.declared.answer.Answer.{Answer}
 use Rattle.wire_msgs.specs.declared.answer.Answer.TheVariants.{Done, Refused}
-use Rattle.wire_msgs.specs.declared.answer.Refusal.TheVariants.{NoContext}
+use Rattle.wire_msgs.specs.declared.refusal.Refusal.TheVariants.{NoContext}
 use Rattle.wire_msgs.specs.declared.config.Config.{Config}
+use Rattle.wire_msgs.specs.declared.config.StartTab.{StartTab}
 use Rattle.journal.specs.Step.{StepFits}
 use Rattle.journal.specs.declared.entry.Step.{Step}
 use Rattle.journal.specs.declared.entry.Step.TheVariants.{ParentAct, Take}
 use Rattle.journal.specs.declared.entry.Entry.{Entry}
-use Rattle.model.specs.Journal.{Journal, up_to, is_accepted, commit_of, committed}
-use Rattle.model.specs.Links.{Sent, is_live, is_subscribed, sent, taken, waiting, base}
+use Rattle.model.specs.Journal.{Journal, Commit, up_to, is_accepted, commit_of, committed}
+use Rattle.model.specs.Tabs.{is_live, is_subscribed}
+use Rattle.model.specs.Links.{Sent, is_take, sent, taken, waiting, base}
 use Rattle.model.specs.Values.{value_at}
-use Rattle.model.specs.View.{view}
+use Rattle.model.specs.View.{view, parent_view}
 use Rattle.model.specs.Next.{take_answer, answer_of, Lawful}
-use Rattle.world.specs.declared.side.Side.{Side}
-use Rattle.world.specs.Side.{started_side, sent_side, taken_side, no_side, side_answer, answer_in, parent_in, sides_in}
-use Rattle.world.specs.Stands.{table_at, side_of, numbers, sides_of, Stands}
+use Rattle.model.proofs.Moments.{lawful_taken}
+use Rattle.world.specs.Places.{numbers, nth_context, place_of, by_tab}
+use Rattle.world.specs.Process.{Process}
+use Rattle.world.specs.Side.{started_parent, started_table, started_side, no_side, held_in, bundle_of, IsHeld, IsReady, sent_side, taken_side, side_answer, answer_in, committed_parent, parent_in, sides_in}
+use Rattle.world.specs.Stands.{table_at, parent_of, held_at, side_of, sides_of, Stands}
 use Rattle.world.proofs.Lists.{map-same, set-numbers, get_or-map-numbers, length-numbers}
-use Rattle.world.proofs.Merging.{table_after, table_more, table_start, value_in-map}
-use Rattle.world.proofs.Moves.{orderly, sent_to, side_sent, side_took}
+use Rattle.model.proofs.Contexts.{subscribed_live}
+use Rattle.world.proofs.Tabs.{IsPlaced, placed, get_or-by_tab}
+use Rattle.field_table.proofs.Tables.{value_in-map}
+use Rattle.world.proofs.Merging.{table_start}
+use Rattle.world.proofs.Orders.{AreSubscribed, are_subscribed, subscribed_cut}
+use Rattle.world.proofs.Moves.{side_still, side_sent, side_took, parent_still, parent_more}
 
-side_start : (c : Config) (p : ℕ) → started_side c p ≡ side_of c [] p
+-- equal things of each tab's context
+by_tab-same : {A : Type 0} (f g : ContextId → A) → ((x : ContextId) → f x ≡ g x) → (tabs : List StartTab) → by_tab f tabs ≡ by_tab g tabs
+by_tab-same f g same tabs = map-same (λ n. f (nth_context n)) (λ n. g (nth_context n)) (λ n. same (nth_context n)) (numbers 0 (length tabs))
+
+parent_start : (c : Config) → started_parent c.tabs ≡ parent_of c []
+parent_start c = by_tab-same (λ x. initial_table) (λ x. table_at x []) (λ x. sym (table_start x)) c.tabs
+
+side_start : (c : Config) (p : ℕ) → started_side c.tabs p ≡ side_of c [] p
 unfolding taken sent
-side_start c p = ap (λ (t : Table). record { holds = is_subscribed c.tabs p; fields = t; link = [] }) (sym table_start)
+side_start c p =
+    ap (λ (t : List (Option Table)). record { tables = t; link = [] })
+    (by_tab-same (started_table c.tabs p) (held_at c [] p) (λ x. ap (λ (t : Table). cond (is_subscribed c.tabs x p) (Some t) None) (sym (table_start x))) c.tabs)
 
-pub stands_at_start : (c : Config) (j : Journal) (parent : Table) (sides : List Side) → j ≡ [] → parent ≡ initial_table → sides ≡ map (started_side c) (numbers 0 (length c.types)) → Stands c j parent sides
+pub stands_at_start : (c : Config) (j : Journal) (parent : List Table) (sides : List Process) → j ≡ [] → parent ≡ started_parent c.tabs → sides ≡ map (started_side c.tabs) (numbers 0 (length c.types)) → Stands c j parent sides
 unfolding Lawful
 stands_at_start c [] parent sides none parent_is sides_are = record {
   lawful = tt;
-  parent_is = parent_is ∙ sym table_start;
-  sides_are = sides_are ∙ map-same (started_side c) (side_of c []) (side_start c) (numbers 0 (length c.types));
+  parent_is = parent_is ∙ parent_start c;
+  sides_are = sides_are ∙ map-same (started_side c.tabs) (side_of c []) (side_start c) (numbers 0 (length c.types));
 }
 stands_at_start c (e ∷ j) parent sides none parent_is sides_are = cc
 
-committed_if : (live : Bool) (t : Changes) → committed (record { step = ParentAct (actions.Set t); answer = cond live Done (Refused NoContext) }) ≡ cond live (Some t) None
-committed_if true t = refl
-committed_if false t = refl
-
-table_after-if : (live : Bool) (t : Changes) (table : Table) → table_after (cond live (Some t) None) table ≡ cond live (merged t table) table
-table_after-if true t table = refl
-table_after-if false t table = refl
-
-sent_to-if : (live : Bool) (t : Changes) (ss : List Side) → map (sent_to (cond live (Some t) None)) ss ≡ cond live (map (sent_side t) ss) ss
-sent_to-if true t ss = refl
-sent_to-if false t ss = map-id ss
-
-set_stands : (c : Config) (j : Journal) (t : Changes) (e : Entry) → e ≡ record { step = ParentAct (actions.Set t); answer = answer_of c j (ParentAct (actions.Set t)) } → Lawful c j
-    → Stands c (e ∷ j) (parent_in c.tabs (table_at j) (ParentAct (actions.Set t))) (sides_in c.tabs (sides_of c j) (ParentAct (actions.Set t)))
+-- an entry that committed nothing and took nothing
+still_stands : (c : Config) (j : Journal) (e : Entry) → ((p : ℕ) → is_take p e.step ≡ false) → committed e ≡ None → e.answer ≡ answer_of c j e.step → Lawful c j → Stands c (e ∷ j) (parent_of c j) (sides_of c j)
 unfolding Lawful
-set_stands c j t e is lawful =
-    let live = is_live c.tabs in
-    let commits : committed e ≡ cond live (Some t) None = ap committed is ∙ committed_if live t in
-    let other : (p : ℕ) → side_of c (e ∷ j) p ≡ sent_to (cond live (Some t) None) (side_of c j p) =
-    λ p. side_sent c p e j (rw is refl) (orderly c p j lawful) ∙ ap (λ (o : Option Changes). sent_to o (side_of c j p)) commits in
-    record {
-      lawful = (rw is refl, lawful);
-      parent_is = sym (table_more e j ∙ ap (λ (o : Option Changes). table_after o (table_at j)) commits ∙ table_after-if live t (table_at j));
-      sides_are = sym (map-same (side_of c (e ∷ j)) (λ p. sent_to (cond live (Some t) None) (side_of c j p)) other (numbers 0 (length c.types))
-          ∙ sym (map-map (sent_to (cond live (Some t) None)) (side_of c j) (numbers 0 (length c.types)))
-          ∙ sent_to-if live t (sides_of c j));
-    }
+still_stands c j e other none answer lawful = record {
+  lawful = (answer, lawful);
+  parent_is = sym (parent_still c e j none);
+  sides_are = map-same (side_of c j) (side_of c (e ∷ j)) (λ p. sym (side_still c p e j (other p) none (lawful_taken c p j lawful))) (numbers 0 (length c.types));
+}
+
+-- an entry that committed something of a live context
+more_stands : (c : Config) (j : Journal) (e : Entry) (m : Commit) → ((p : ℕ) → is_take p e.step ≡ false) → committed e ≡ Some m → is_live c.tabs m.context ≡ true → e.answer ≡ answer_of c j e.step → Lawful c j
+    → Stands c (e ∷ j) (committed_parent m (parent_of c j)) (map (sent_side m) (sides_of c j))
+unfolding Lawful
+more_stands c j e m other commits live answer lawful = record {
+  lawful = (answer, lawful);
+  parent_is = sym (parent_more c e j m commits live);
+  sides_are = map-map (sent_side m) (side_of c j) (numbers 0 (length c.types))
+      ∙ map-same (λ p. sent_side m (side_of c j p)) (side_of c (e ∷ j)) (λ p. sym (side_sent c p e j m (other p) commits live (lawful_taken c p j lawful))) (numbers 0 (length c.types));
+}
+
+set_stands : (c : Config) (j : Journal) (x : ContextId) (t : Changes) (a : Answer) (b : Bool) → is_live c.tabs x ≡ b → a ≡ cond b Done (Refused NoContext) → a ≡ answer_of c j (ParentAct (actions.Set x t)) → Lawful c j
+    → Stands c (record { step = ParentAct (actions.Set x t); answer = a } ∷ j)
+    (cond b (committed_parent (record { context = x; change = t }) (parent_of c j)) (parent_of c j))
+    (cond b (map (sent_side (record { context = x; change = t })) (sides_of c j)) (sides_of c j))
+set_stands c j x t a true live is answer lawful =
+    let m : Commit = record { context = x; change = t } in
+    more_stands c j (record { step = ParentAct (actions.Set x t); answer = a }) m (λ p. refl) (ap (λ (a : Answer). cond (is_accepted a) (Some m) None) is) live answer lawful
+set_stands c j x t a false live is answer lawful =
+    let m : Commit = record { context = x; change = t } in
+    still_stands c j (record { step = ParentAct (actions.Set x t); answer = a }) (λ p. refl) (ap (λ (a : Answer). cond (is_accepted a) (Some m) None) is) answer lawful
 
 -- a take commits nothing
 take_commits : (q : ProcId) (accepted : Bool) → cond accepted (commit_of (Take q)) None ≡ None
 take_commits q true = refl
 take_commits q false = refl
 
-same_answer : (ws : List Sent) → side_answer (map (λ s. s.commit) ws) ≡ take_answer ws
+same_answer : (ws : List Sent) → side_answer (map (λ s. bundle_of s.commit) ws) ≡ take_answer ws
 same_answer [] = refl
 same_answer (w ∷ ws) = refl
 
 take_stands : (c : Config) (j : Journal) (q : ProcId) (a : Answer) → q.0 < length c.types → a ≡ answer_of c j (Take q) → Lawful c j
-    → Stands c (record { step = Take q; answer = a } ∷ j) (table_at j) (sides_in c.tabs (sides_of c j) (Take q))
+    → Stands c (record { step = Take q; answer = a } ∷ j) (parent_of c j) (sides_in c.tabs (Take q) (sides_of c j))
 unfolding Lawful
 take_stands c j q a below answer lawful =
     let e : Entry = record { step = Take q; answer = a } in
-    let commits : committed e ≡ None = take_commits q (is_accepted a) in
+    let none : committed e ≡ None = take_commits q (is_accepted a) in
     let other : (p : ℕ) → p ≢ q.0 → side_of c (e ∷ j) p ≡ side_of c j p =
-    λ p ne. side_sent c p e j (ne_eqb q.0 p (λ same. ne (sym same))) (orderly c p j lawful) ∙ ap (λ (o : Option Changes). sent_to o (side_of c j p)) commits in
-    let own : side_of c (e ∷ j) q.0 ≡ taken_side (side_of c j q.0) = side_took c q.0 e j (eq-eqb q.0 q.0 refl) commits answer (orderly c q.0 j lawful) in
+    λ p ne. side_still c p e j (ne_eqb q.0 p (λ same. ne (sym same))) none (lawful_taken c p j lawful) in
+    let own : side_of c (e ∷ j) q.0 ≡ taken_side (side_of c j q.0) = side_took c q.0 e j (eq-eqb q.0 q.0 refl) none answer in
     let read : slice_index_or (sides_of c j) q.0 no_side ≡ side_of c j q.0 = get_or-map-numbers (side_of c j) (length c.types) q.0 no_side below in
     let at : q.0 ≡ 0 + q.0 = omega arith in
     record {
       lawful = (answer, lawful);
-      parent_is = sym (table_more e j ∙ ap (λ (o : Option Changes). table_after o (table_at j)) commits);
+      parent_is = sym (parent_still c e j none);
       sides_are = ap (slice_set (sides_of c j) q.0) (ap taken_side read ∙ sym own) ∙ set-numbers (side_of c j) (side_of c (e ∷ j)) 0 (length c.types) q.0 q.0 at other;
     }
 
 -- the sides answer as the journal does
-pub answer_is : (c : Config) (j : Journal) (ss : List Side) (s : Step) → StepFits (length c.types) s → ss ≡ sides_of c j → answer_in c.tabs ss s ≡ answer_of c j s
-answer_is c j ss (ParentAct (actions.Set t)) fits are = refl
+answer_is : (c : Config) (j : Journal) (ss : List Process) (s : Step) → StepFits (length c.types) s → ss ≡ sides_of c j → answer_in c ss s ≡ answer_of c j s
+answer_is c j ss (ParentAct action) fits are = refl
 answer_is c j ss (Take q) fits are =
-    let read : slice_index_or ss q.0 no_side ≡ side_of c j q.0 = ap (λ (l : List Side). slice_index_or l q.0 no_side) are ∙ get_or-map-numbers (side_of c j) (length c.types) q.0 no_side fits in
-    ap (λ (s : Side). side_answer s.link) read ∙ same_answer (waiting c q.0 j)
+    let read : slice_index_or ss q.0 no_side ≡ side_of c j q.0 = ap (λ (l : List Process). slice_index_or l q.0 no_side) are ∙ get_or-map-numbers (side_of c j) (length c.types) q.0 no_side fits in
+    ap (λ (s : Process). side_answer s.link) read ∙ same_answer (waiting c q.0 j)
 
 stands_more : (c : Config) (j : Journal) (s : Step) (a : Answer) → StepFits (length c.types) s → a ≡ answer_of c j s → Lawful c j
-    → Stands c (record { step = s; answer = a } ∷ j) (parent_in c.tabs (table_at j) s) (sides_in c.tabs (sides_of c j) s)
-stands_more c j (ParentAct (actions.Set t)) a fits answer lawful =
-    set_stands c j t (record { step = ParentAct (actions.Set t); answer = a }) (ap (λ (x : Answer). record { step = ParentAct (actions.Set t); answer = x }) answer) lawful
+    → Stands c (record { step = s; answer = a } ∷ j) (parent_in c.tabs s (parent_of c j)) (sides_in c.tabs s (sides_of c j))
+stands_more c j (ParentAct (actions.Set x t)) a fits answer lawful = set_stands c j x t a (is_live c.tabs x) refl answer answer lawful
+stands_more c j (ParentAct action) a fits answer lawful = absurd fits
 stands_more c j (Take q) a fits answer lawful = take_stands c j q a fits answer lawful
 
 -- a step that was done as the sides say, by what the parts of the world were before and are behind it
-pub record DoneBy (c : Config) (parent : Table) (sides : List Side) (s : Step) (a : Answer) (new_parent : Table) (new_sides : List Side) : Type 0 where
-  pub answer_is : a ≡ answer_in c.tabs sides s
-  pub parent_is : new_parent ≡ parent_in c.tabs parent s
-  pub sides_are : new_sides ≡ sides_in c.tabs sides s
+pub record DoneBy (c : Config) (parent : List Table) (sides : List Process) (s : Step) (a : Answer) (new_parent : List Table) (new_sides : List Process) : Type 0 where
+  pub answer_is : a ≡ answer_in c sides s
+  pub parent_is : new_parent ≡ parent_in c.tabs s parent
+  pub sides_are : new_sides ≡ sides_in c.tabs s sides
 
-pub answers : (c : Config) (j : Journal) (parent new_parent : Table) (sides new_sides : List Side) (s : Step) (a : Answer) → StepFits (length c.types) s
+pub answers : (c : Config) (j : Journal) (parent new_parent : List Table) (sides new_sides : List Process) (s : Step) (a : Answer) → StepFits (length c.types) s
     → Stands c j parent sides → DoneBy c parent sides s a new_parent new_sides → a ≡ answer_of c j s
 answers c j parent new_parent sides new_sides s a fits h d = d.answer_is ∙ answer_is c j sides s fits h.sides_are
 
-pub goes_on : (c : Config) (j : Journal) (parent new_parent : Table) (sides new_sides : List Side) (s : Step) (a : Answer) → StepFits (length c.types) s
+pub goes_on : (c : Config) (j : Journal) (parent new_parent : List Table) (sides new_sides : List Process) (s : Step) (a : Answer) → StepFits (length c.types) s
     → Stands c j parent sides → DoneBy c parent sides s a new_parent new_sides → Stands c (record { step = s; answer = a } ∷ j) new_parent new_sides
 goes_on c j parent new_parent sides new_sides s a fits h d =
-    let parent_after : new_parent ≡ parent_in c.tabs (table_at j) s = d.parent_is ∙ ap (λ (t : Table). parent_in c.tabs t s) h.parent_is in
-    let sides_after : new_sides ≡ sides_in c.tabs (sides_of c j) s = d.sides_are ∙ ap (λ (l : List Side). sides_in c.tabs l s) h.sides_are in
+    let parent_after : new_parent ≡ parent_in c.tabs s (parent_of c j) = d.parent_is ∙ ap (λ (t : List Table). parent_in c.tabs s t) h.parent_is in
+    let sides_after : new_sides ≡ sides_in c.tabs s (sides_of c j) = d.sides_are ∙ ap (λ (l : List Process). sides_in c.tabs s l) h.sides_are in
     rw (parent_after, sides_after) (stands_more c j s a fits (answers c j parent new_parent sides new_sides s a fits h d) h.lawful)
 
-pub sides_count : (c : Config) (j : Journal) (parent : Table) (sides : List Side) → Stands c j parent sides → length sides ≡ length c.types
+pub sides_count : (c : Config) (j : Journal) (parent : List Table) (sides : List Process) → Stands c j parent sides → length sides ≡ length c.types
 sides_count c j parent sides h = ap length h.sides_are ∙ length-map (numbers 0 (length c.types)) (side_of c j) ∙ length-numbers 0 (length c.types)
 
--- what a process shows of a field, by what it has
-abbrev pub shown : Field → Side → Option Value
-shown f s = cond s.holds (Some (value_in s.fields f)) None
+pub parent_count : (c : Config) (j : Journal) (parent : List Table) (sides : List Process) → Stands c j parent sides → length parent ≡ length c.tabs
+parent_count c j parent sides h = ap length h.parent_is ∙ length-map (numbers 0 (length c.tabs)) (λ n. table_at (nth_context n) j) ∙ length-numbers 0 (length c.tabs)
 
-pub shown_is : (c : Config) (j : Journal) (parent : Table) (sides : List Side) (p : ℕ) (f : Field) (s : Side) → p < length c.types → Stands c j parent sides → s ≡ slice_index_or sides p s → shown f s ≡ view c p f j
-shown_is c j parent sides p f s below h read =
-    let is : s ≡ side_of c j p = read ∙ ap (λ (l : List Side). slice_index_or l p s) h.sides_are ∙ get_or-map-numbers (side_of c j) (length c.types) p s below in
-    ap (shown f) is ∙ ap (λ (v : Value). cond (is_subscribed c.tabs p) (Some v) None) (value_in-map (λ (f : Field). value_at f (up_to (base c p j) j)) f)
+-- a commit of a context to which the process is subscribed, on its link
+held_one : (c : Config) (j : Journal) (p : ℕ) (m : Commit) → is_subscribed c.tabs m.context p ≡ true → IsHeld (by_tab (held_at c j p) c.tabs) (bundle_of m)
+held_one c j p m own =
+    let x = m.context in
+    let at : IsPlaced c.tabs x = placed c.tabs x (subscribed_live c.tabs x p own) in
+    let held : held_in x (by_tab (held_at c j p) c.tabs) ≡ Some (table_at x (up_to (base c p j) j)) =
+    get_or-by_tab (held_at c j p) c.tabs x None at ∙ ap (λ b. cond b (Some (table_at x (up_to (base c p j) j))) None) own in
+    record { commit = m; is = refl; serial = at.serial; held = subst (λ (o : Option Table). IsSome o) (sym held) refl }
+
+all_held : (c : Config) (j : Journal) (p : ℕ) (ss : List Sent) → AreSubscribed c p ss → All (λ (s : Sent). IsHeld (by_tab (held_at c j p) c.tabs) (bundle_of s.commit)) ss
+all_held c j p [] h = All-nil (λ (s : Sent). IsHeld (by_tab (held_at c j p) c.tabs) (bundle_of s.commit))
+all_held c j p (s ∷ ss) h = All-cons (λ (s : Sent). IsHeld (by_tab (held_at c j p) c.tabs) (bundle_of s.commit)) s ss (held_one c j p s.commit h.0) (all_held c j p ss h.1)
+
+side_ready : (c : Config) (j : Journal) (p : ℕ) → IsReady (side_of c j p)
+side_ready c j p =
+    All-map (IsHeld (by_tab (held_at c j p) c.tabs)) (λ (s : Sent). bundle_of s.commit) (waiting c p j)
+    (all_held c j p (waiting c p j) (subscribed_cut c p (taken p j) (sent c p j) (are_subscribed c p j)))
+
+-- what waits for the processes of a world can be taken
+pub sides_ready : (c : Config) (j : Journal) (parent : List Table) (sides : List Process) → Stands c j parent sides → All IsReady sides
+sides_ready c j parent sides h =
+    subst (λ (ss : List Process). All IsReady ss) (sym h.sides_are)
+    (All-map IsReady (side_of c j) (numbers 0 (length c.types)) (λ k d within. side_ready c j (get_or (numbers 0 (length c.types)) k d)))
+
+-- what the parent shows of a live context
+pub parent_shown : (c : Config) (j : Journal) (parent : List Table) (sides : List Process) (x : ContextId) (f : Field) (table : Table) → is_live c.tabs x ≡ true → Stands c j parent sides
+    → table ≡ slice_index_or parent (place_of x) table → Some (value_in table f) ≡ parent_view c x f j
+parent_shown c j parent sides x f table live h read =
+    let is : table ≡ table_at x j = read ∙ ap (λ (l : List Table). slice_index_or l (place_of x) table) h.parent_is ∙ get_or-by_tab (λ y. table_at y j) c.tabs x table (placed c.tabs x live) in
+    ap (λ (t : Table). Some (value_in t f)) is
+    ∙ ap Some (value_in-map (λ f. value_at x f j) f)
+    ∙ ap (λ b. cond b (Some (value_at x f j)) None) (sym live)
+
+-- what a process shows of a context, by what it has
+abbrev pub shown : ContextId → Field → Process → Option Value
+shown x f s = option_map (λ t. value_in t f) (held_in x s.tables)
+
+shown_if : (b : Bool) (g : Field → Value) (f : Field) → option_map (λ t. value_in t f) (cond b (Some (map g fields)) None) ≡ cond b (Some (g f)) None
+shown_if true g f = ap Some (value_in-map g f)
+shown_if false g f = refl
+
+pub shown_is : (c : Config) (j : Journal) (parent : List Table) (sides : List Process) (p : ℕ) (x : ContextId) (f : Field) (s : Process) → p < length c.types → is_live c.tabs x ≡ true
+    → Stands c j parent sides → s ≡ slice_index_or sides p s → shown x f s ≡ view c p x f j
+shown_is c j parent sides p x f s below live h read =
+    let is : s ≡ side_of c j p = read ∙ ap (λ (l : List Process). slice_index_or l p s) h.sides_are ∙ get_or-map-numbers (side_of c j) (length c.types) p s below in
+    ap (shown x f) is
+    ∙ ap (λ (o : Option Table). option_map (λ t. value_in t f) o) (get_or-by_tab (held_at c j p) c.tabs x None (placed c.tabs x live))
+    ∙ shown_if (is_subscribed c.tabs x p) (λ f. value_at x f (up_to (base c p j) j)) f

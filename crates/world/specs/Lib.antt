@@ -1,2 +1,4 @@
+pub mod Places
+pub mod Process
 pub mod Side
 pub mod Stands

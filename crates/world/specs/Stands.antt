@@ -1,33 +1,40 @@
 -- What a world keeps is what its journal tells.
-use Rattle.std.specs.Prelude.{◌≡◌, ℕ, zero, suc, List, [], ◌∷◌, length, map}
+use Rattle.std.specs.Prelude.{◌≡◌, ℕ, List, length, map, Option, Some, None, if◌then◌else◌}
+use Rattle.fission_ids.specs.declared.context.ContextId.{ContextId}
 use Rattle.field_table.specs.Field.{fields}
 use Rattle.field_table.specs.Table.{Table}
 use Rattle.wire_msgs.specs.declared.config.Config.{Config}
 use Rattle.model.specs.Journal.{Journal, up_to}
 use Rattle.model.specs.Values.{value_at}
-use Rattle.model.specs.Links.{is_subscribed, base, waiting}
+use Rattle.model.specs.Tabs.{is_subscribed}
+use Rattle.model.specs.Links.{base, waiting}
 use Rattle.model.specs.Next.{Lawful}
-use Rattle.world.specs.declared.side.Side.{Side}
+use Rattle.world.specs.Places.{numbers, by_tab}
+use Rattle.world.specs.Process.{Process}
+use Rattle.world.specs.Side.{bundle_of}
 
--- the parent's values after a journal
-abbrev pub table_at : Journal → Table
-table_at j = map (λ f. value_at f j) fields
+-- the parent's values of a context after a journal
+abbrev pub table_at : ContextId → Journal → Table
+table_at x j = map (λ f. value_at x f j) fields
+
+-- the parent's tables after a journal
+abbrev pub parent_of : Config → Journal → List Table
+parent_of c j = by_tab (λ x. table_at x j) c.tabs
+
+-- the table that process p has of a context after a journal, if it holds the context
+abbrev pub held_at : Config → Journal → ℕ → ContextId → Option Table
+held_at c j p x = if is_subscribed c.tabs x p then Some (table_at x (up_to (base c p j) j)) else None
 
 -- what process p has after a journal
-abbrev pub side_of : Config → Journal → ℕ → Side
-side_of c j p = record { holds = is_subscribed c.tabs p; fields = table_at (up_to (base c p j) j); link = map (λ s. s.commit) (waiting c p j) }
-
--- n numbers from k on
-abbrev pub numbers : ℕ → ℕ → List ℕ
-numbers k zero = []
-numbers k (suc n) = k ∷ numbers (suc k) n
+abbrev pub side_of : Config → Journal → ℕ → Process
+side_of c j p = record { tables = by_tab (held_at c j p) c.tabs; link = map (λ s. bundle_of s.commit) (waiting c p j) }
 
 -- what each process has after a journal
-abbrev pub sides_of : Config → Journal → List Side
+abbrev pub sides_of : Config → Journal → List Process
 sides_of c j = map (side_of c j) (numbers 0 (length c.types))
 
 -- a world stands for its journal
-pub record Stands (c : Config) (j : Journal) (parent : Table) (sides : List Side) : Type 0 where
+pub record Stands (c : Config) (j : Journal) (parent : List Table) (sides : List Process) : Type 0 where
   pub lawful : Lawful c j
-  pub parent_is : parent ≡ table_at j
+  pub parent_is : parent ≡ parent_of c j
   pub sides_are : sides ≡ sides_of c j

@@ -4,6 +4,7 @@
 #![tactic(auto)]
 
 mod side;
+mod tab;
 mod world;
 
 pub use world::World;

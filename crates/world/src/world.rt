@@ -1,21 +1,21 @@
-ghost use Rattle.std.specs.Prelude.{◌≡◌, ◌<◌, ◌≤◌, length, IfOk, OnOk};
+ghost use Rattle.std.specs.Prelude.{◌≡◌, ◌<◌, ◌≤◌, ◌∷◌, All, length, IfOk, OnOk};
 ghost use Rattle.std.specs.Option.{option_copied};
-ghost use Rattle.journal.specs.Step.{StepFits};
-ghost use Rattle.model.specs.Links.{is_live};
+ghost use Rattle.journal.specs.Step.{IsPlayed, StepFits};
 ghost use Rattle.model.specs.View.{view, parent_view};
-ghost use Rattle.model.specs.Next.{started, stepped};
+ghost use Rattle.model.specs.Next.{started, stepped, action_answer};
 ghost use Rattle.wire_msgs.specs.declared.action.ParentAction.TheVariants.{Set};
-ghost use Rattle.journal.specs.declared.entry.Step.TheVariants.{ParentAct};
-ghost use Rattle.world.specs.Side.{parent_in, sides_in, answer_in};
+ghost use Rattle.world.specs.Side.{IsReady, started_parent, parent_acted, sides_acted, answer_in, parent_in, sides_in};
 
-use crate::side::{Side, send, start_sides, take};
+use crate::side::{Side, send, start_sides};
+use crate::tab::place_of;
 use field_table::{Field, Fields, Value};
-use fission_ids::{Duplicate, OutOfMemory, ProcId};
+use fission_ids::{ContextId, Duplicate, OutOfMemory, ProcId};
 use journal::{Entry, Journal, Step};
+use model::is_live;
 use std::alloc::Global;
 use std::marker::Model;
 use transaction::Transaction;
-use wire_msgs::{Answer, Config, ParentAction, Refusal, StartTab};
+use wire_msgs::{Answer, Config, ParentAction, Refusal};
 
 /// The state of a run, seen as its configuration and its journal.
 #[derive(Debug, Drop)]
@@ -23,7 +23,8 @@ pub struct World {
     alloc: Global,
     config: Config,
     journal: Journal,
-    parent: Fields,
+    // The fields of each tab's context.
+    parent: Vec<Fields>,
     sides: Vec<Side>,
 }
 
@@ -35,22 +36,22 @@ impl Model for World {
 
     ghost view = { λ w. record { config = w.config; journal = w.journal } };
 
-    ghost invariant = { λ w. Stands w.config w.journal w.parent w.sides.items };
+    ghost invariant = { λ w. Stands w.config w.journal w.parent.items w.sides.items };
 }
 
 impl World {
     /// The world of a configuration, before any step.
     pub fn start(alloc: Global, config: Config) -> Result<World, OutOfMemory>
-        requires processes { length config.types ≤ 16 }
-        requires tabs { length config.tabs ≤ 1 }
+        requires { length config.types ≤ 16 }
         ensures { IfOk result (λ w. w ≡ started config) }
     {
+        let parent = start_parent(alloc, &config)?;
         let sides = start_sides(alloc, &config)?;
         Ok(World {
             alloc,
             config,
             journal: Journal::new(alloc),
-            parent: Fields::initial(),
+            parent,
             sides,
         })
     }
@@ -70,12 +71,12 @@ impl World {
         } = self;
         let answer = act(
             alloc,
-            config.tabs.as_slice(),
-            &mut parent,
+            &config,
+            parent.as_mut_slice(),
             sides.as_mut_slice(),
             &step,
         )?;
-        journal.push(Entry { step, answer })?;
+        keep(&mut journal, step, answer)?;
         Ok(World {
             alloc,
             config,
@@ -99,76 +100,110 @@ impl World {
         &self.journal
     }
 
-    /// What the parent shows of a field, or None where the context isn't live.
-    pub fn parent_field(&self, f: Field) -> Option<&Value>
-        ensures { option_copied result ≡ parent_view self.now.config f self.now.journal }
+    /// What the parent shows of a field of context x, or None where x isn't live.
+    pub fn parent_field(&self, x: ContextId, f: Field) -> Option<&Value>
+        ensures { option_copied result ≡ parent_view self.now.config x f self.now.journal }
     {
-        if is_live(self.config.tabs.as_slice()) {
-            Some(self.parent.get(f))
+        if is_live(self.config.tabs.as_slice(), x) {
+            Some(self.parent[place_of(x)].get(f))
         } else {
             None
         }
     }
 
-    /// What a process shows of a field, or None where it doesn't hold the context.
-    pub fn process_field(&self, p: ProcId, f: Field) -> Option<&Value>
+    /// What process p shows of a field of context x, or None where it doesn't hold x.
+    pub fn process_field(&self, p: ProcId, x: ContextId, f: Field) -> Option<&Value>
         requires { p.0 < length self.now.config.types }
-        ensures { option_copied result ≡ view self.now.config p.0 f self.now.journal }
+        ensures { option_copied result ≡ view self.now.config p.0 x f self.now.journal }
     {
-        let side = &self.sides[p.0 as usize];
-        if side.holds {
-            Some(side.fields.get(f))
-        } else {
-            None
+        if !is_live(self.config.tabs.as_slice(), x) {
+            return None;
         }
+        let fields = self.sides[p.0 as usize].fields(x)?;
+        Some(fields.get(f))
     }
 }
 
-fn is_live(tabs: &[StartTab]) -> bool
-    ensures { result ≡ is_live tabs.now }
+// The parent's fields of each tab's context before any step.
+fn start_parent(alloc: Global, config: &Config) -> Result<Vec<Fields>, OutOfMemory>
+    ensures { IfOk result (λ parent. parent.items ≡ started_parent config.now.tabs) }
 {
-    match tabs {
-        [] => false,
-        [_, ..] => true,
+    let count = config.tabs.len();
+    let mut parent = Vec::with_capacity(alloc, count)?;
+    for _ in 0..count {
+        parent.push(Fields::initial(alloc))?;
     }
+    Ok(parent)
+}
+
+// Keeps what a step came to.
+fn keep(journal: &mut Journal, step: Step, answer: Answer) -> Result<(), OutOfMemory>
+    ensures { OnOk result (journal.new ≡ record { step = step; answer = answer } ∷ journal.old) }
+{
+    journal.push(Entry { step, answer })
 }
 
 // What a step comes to. It changes the parent's fields and what each process has.
 fn act(
     alloc: Global,
-    tabs: &[StartTab],
-    parent: &mut Fields,
+    config: &Config,
+    parent: &mut [Fields],
     sides: &mut [Side],
     step: &Step,
 ) -> Result<Answer, OutOfMemory>
-    requires { StepFits (length sides.old) step.now }
-    ensures answer { IfOk result (λ a. a ≡ answer_in tabs.now sides.old step.now) }
-    ensures parent { OnOk result (parent.new ≡ parent_in tabs.now parent.old step.now) }
-    ensures sides { OnOk result (sides.new ≡ sides_in tabs.now sides.old step.now) }
+    requires step { StepFits (length sides.old) step.now }
+    requires parent { length parent.old ≡ length config.now.tabs }
+    requires sides { All IsReady sides.old }
+    ensures answer { IfOk result (λ a. a ≡ answer_in config.now sides.old step.now) }
+    ensures parent { OnOk result (parent.new ≡ parent_in config.now.tabs step.now parent.old) }
+    ensures sides { OnOk result (sides.new ≡ sides_in config.now.tabs step.now sides.old) }
 {
     match step {
-        Step::ParentAct {
-            action: ParentAction::Set { fields },
-        } => set(tabs, parent, sides, fields),
-        Step::Take { p } => take(alloc, &mut sides[p.0 as usize]),
+        Step::ParentAct { action } => act_in_parent(alloc, config, parent, sides, action),
+        Step::Take { p } => sides[p.0 as usize].take(alloc),
     }
 }
 
-// The parent writes fields of the context, if it is there, and sends them to its subscribers.
-fn set(
-    tabs: &[StartTab],
-    parent: &mut Fields,
+// What an action of the parent comes to. Nothing but a set is played.
+fn act_in_parent(
+    alloc: Global,
+    config: &Config,
+    parent: &mut [Fields],
     sides: &mut [Side],
+    action: &ParentAction,
+) -> Result<Answer, OutOfMemory>
+    requires action { IsPlayed action.now }
+    requires parent { length parent.old ≡ length config.now.tabs }
+    ensures answer { IfOk result (λ a. a ≡ action_answer config.now action.now) }
+    ensures parent { OnOk result (parent.new ≡ parent_acted config.now.tabs action.now parent.old) }
+    ensures sides { OnOk result (sides.new ≡ sides_acted config.now.tabs action.now sides.old) }
+{
+    match action {
+        ParentAction::Set { context, fields } => {
+            set(alloc, config, parent, sides, *context, fields)
+        }
+        _ => unreachable!(),
+    }
+}
+
+// The parent writes fields of a context, if it is there, and sends them to its subscribers.
+fn set(
+    alloc: Global,
+    config: &Config,
+    parent: &mut [Fields],
+    sides: &mut [Side],
+    context: ContextId,
     change: &Transaction,
 ) -> Result<Answer, OutOfMemory>
-    ensures answer { IfOk result (λ a. a ≡ answer_in tabs.now sides.old (ParentAct (Set change.now))) }
-    ensures parent { OnOk result (parent.new ≡ parent_in tabs.now parent.old (ParentAct (Set change.now))) }
-    ensures sides { OnOk result (sides.new ≡ sides_in tabs.now sides.old (ParentAct (Set change.now))) }
+    requires { length parent.old ≡ length config.now.tabs }
+    ensures answer { IfOk result (λ a. a ≡ action_answer config.now (Set context change.now)) }
+    ensures parent { OnOk result (parent.new ≡ parent_acted config.now.tabs (Set context change.now) parent.old) }
+    ensures sides { OnOk result (sides.new ≡ sides_acted config.now.tabs (Set context change.now) sides.old) }
 {
-    if !is_live(tabs) {
+    if !is_live(config.tabs.as_slice(), context) {
         return Ok(Answer::Refused(Refusal::NoContext));
     }
-    send(sides, change)?;
-    change.copy()?.apply(parent);
+    send(alloc, sides, context, change)?;
+    change.copy()?.apply(&mut parent[place_of(context)]);
     Ok(Answer::Done)
 }

@@ -1,5 +1,4 @@
-use Rattle.std.proofs.Common.{reverse, sym, ◌∙◌, arith}
-use Rattle.model.specs.Links.{taken}
+use Rattle.std.proofs.Common.{sym, ◌∙◌, arith}
 use Rattle.model.proofs.Bundles.{looks_none, looks_sent, looks_silent, looks_past}
 use Rattle.model.proofs.looking.base.Goals as goal
 use Rattle.model.proofs.looking.base.Goals.{then-left-gt0+then-is_sent, else-left-gt0, else-left-gt0-via-then-left-gt0+else-is_sent, else-left-gt0-via-else-left-gt0}

@@ -10,6 +10,6 @@ loop-side-preserved c =
     let within : i < length c.loop-side.sides = omega arith in
     let within_old : i < length c.args.sides.now = omega arith in
     record {
-      done = mapped_more (sent_side c.args.change.now) i c.loop-side.sides c.args.sides.now c.side-item.result c.send_to.new.side within within_old c.in_ok-send_to.ensures c.loop-side.invariant.done c.loop-side.invariant.rest;
-      rest = drop-set-lt (i + 1) c.loop-side.sides i c.send_to.new.side (omega arith) ∙ drop_more_same c.loop-side.sides c.args.sides.now i c.loop-side.invariant.rest;
+      done = mapped_more (sent_side (record { context = c.args.context; change = c.args.change.now })) i c.loop-side.sides c.args.sides.now c.side-item.result c.send.new.self within within_old c.in_ok-send.ensures c.loop-side.invariant.done c.loop-side.invariant.rest;
+      rest = drop-set-lt (i + 1) c.loop-side.sides i c.send.new.self (omega arith) ∙ drop_more_same c.loop-side.sides c.args.sides.now i c.loop-side.invariant.rest;
     }

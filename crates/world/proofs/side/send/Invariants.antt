@@ -4,6 +4,6 @@ use Rattle.world.proofs.side.send.Given as goal
 
 abbrev pub invariant-loop-side : goal.invariant-loop-side
 invariant-loop-side l = record {
-  done : take l.side-index l.sides ≡ map (sent_side l.change) (take l.side-index l.fn.sides);
+  done : take l.side-index l.sides ≡ map (sent_side (record { context = l.context; change = l.change })) (take l.side-index l.fn.sides);
   rest : drop l.side-index l.sides ≡ drop l.side-index l.fn.sides;
 }

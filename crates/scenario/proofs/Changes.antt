@@ -5,7 +5,7 @@ use Rattle.std.proofs.lemmas.Grind.{drop_more_same}
 use Rattle.serde_json.specs.Data.{Data}
 use Rattle.serde_json.specs.Find.{get}
 use Rattle.field_table.specs.declared.field.Field.{Field}
-use Rattle.field_table.specs.declared.field.Field.TheVariants.{Closed}
+use Rattle.field_table.specs.declared.field.Field.TheVariants.{Name}
 use Rattle.field_table.specs.declared.value.Value.{Value}
 use Rattle.field_table.specs.Field.{fields, name}
 use Rattle.transaction.specs.Transaction.{Changes, nothing}
@@ -34,7 +34,7 @@ kept i old rest = sym (set-get_or old i None) ∙ ap (λ (c : Option Value). set
 
 reaches : (i : ℕ) (old : Changes) → i < length fields → drop i old ≡ drop i nothing → i < length old
 reaches i old lt rest =
-    let n : length nothing ≡ 5 = refl in
+    let n : length nothing ≡ length fields = refl in
     omega (arith, length-drop i old, length-drop i nothing, ap (λ (x : Changes). length x) rest)
 
 pub front_more : (i : ℕ) (old new : Changes) (c : Option Value) → i < length fields → drop i old ≡ drop i nothing → new ≡ set old i c → take (i + 1) new ≡ take i old ++ c ∷ []
@@ -49,12 +49,13 @@ front_all i old le rest =
     sym (append-nil (take i old)) ∙ ap (λ (x : Changes). take i old ++ x) (sym none) ∙ take-append-drop i old
 
 -- the field at a place, and those after it
-pub fields_turn : (place i : ℕ) (d : Data) (text : List ℕ) (found : Option Data) → i < length fields → text ≡ name (get_or fields i Closed) → found ≡ get text d
-    → changes_of place (drop i fields) d ≡ and_then (change_of place found) (changes_of place (drop (i + 1) fields) d)
+pub fields_turn : (place i : ℕ) (d : Data) (text : List ℕ) (found : Option Data) → i < length fields → text ≡ name (get_or fields i Name) → found ≡ get text d
+    → changes_of place (drop i fields) d ≡ and_then (change_of place (get_or fields i Name) found) (changes_of place (drop (i + 1) fields) d)
 unfolding changes_of
 fields_turn place i d text found lt named is =
-    let there : found ≡ get (name (get_or fields i Closed)) d = is ∙ ap (λ (t : List ℕ). get t d) named in
-    ap (λ (fs : List Field). changes_of place fs d) (drop_more fields i Closed lt) ∙ ap (λ (o : Option Data). and_then (change_of place o) (changes_of place (drop (i + 1) fields) d)) (sym there)
+    let f : Field = get_or fields i Name in
+    let there : found ≡ get (name f) d = is ∙ ap (λ (t : List ℕ). get t d) named in
+    ap (λ (fs : List Field). changes_of place fs d) (drop_more fields i Name lt) ∙ ap (λ (o : Option Data). and_then (change_of place f o) (changes_of place (drop (i + 1) fields) d)) (sym there)
 
 pub fields_end : (place i : ℕ) (d : Data) → length fields ≤ i → changes_of place (drop i fields) d ≡ Ok []
 unfolding changes_of

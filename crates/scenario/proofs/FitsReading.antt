@@ -7,6 +7,7 @@ use Rattle.serde_json.specs.Data.{Data, Items, no_items, item}
 use Rattle.serde_json.specs.Events.{items_len}
 use Rattle.serde_json.specs.Find.{get, as_array}
 use Rattle.fission_ids.specs.declared.process.ProcId.{ProcId}
+use Rattle.fission_ids.specs.declared.context.ContextId.{ContextId}
 use Rattle.field_table.specs.declared.field.Field.{Field}
 use Rattle.transaction.specs.Transaction.{Changes}
 use Rattle.wire_msgs.specs.declared.action.ParentAction.TheVariants as actions
@@ -22,7 +23,7 @@ use Rattle.scenario.specs.declared.line.Line.TheVariants as lines
 use Rattle.scenario.specs.declared.line.Scenario.{Scenario}
 use Rattle.scenario.specs.Gives.{◌>>=◌, asks, or_shape, Gives}
 use Rattle.scenario.specs.Members.{top_keys, set_keys, take_keys, show_keys, is_among, has_only, is_text, number_in}
-use Rattle.scenario.specs.Reading.{type_of, types_of, processes_of, process_of, items_in, tab_of, tabs_of, context_name, transaction_of, set_of, take_of, actor_of, field_of, show_of, line_of, lines_of, with_types, scenario_of, or_unread, data_of, reading}
+use Rattle.scenario.specs.Reading.{type_of, types_of, processes_of, process_of, items_in, tab_of, tabs_of, context_at, transaction_of, set_of, take_of, actor_of, field_of, show_of, line_of, lines_of, with_types, scenario_of, or_unread, data_of, reading}
 use Rattle.scenario.specs.Fits.{ActorFits, LineFits, Fits}
 
 -- the value of a step that did not fail
@@ -87,14 +88,14 @@ tabs_len place n (item d ds) ts e =
 set_fits : (place n : ℕ) (d : Data) (l : Line) → set_of place d ≡ Ok l → LineFits n l
 unfolding set_of
 set_fits place n d l e =
-    let set : Changes → Line = λ t. lines.Step (steps.ParentAct (actions.Set t)) in
-    let read = transaction_of place (get (codes "fields") d) >>= λ t. Ok (set t) in
-    let named = asks place (is_text context_name (get (codes "context") d)) read in
+    let set : ContextId → Changes → Line = λ x t. lines.Step (steps.ParentAct (actions.Set x t)) in
+    let read : ContextId → Result Line ReadFault = λ x. transaction_of place (get (codes "fields") d) >>= λ t. Ok (set x t) in
+    let named = context_at place (get (codes "context") d) >>= read in
     let a = asks_ok place (has_only (is_among set_keys) d) (asks place (is_text (codes "parent") (get (codes "at") d)) named) l e in
     let b = asks_ok place (is_text (codes "parent") (get (codes "at") d)) named l a.1 in
-    let c = asks_ok place (is_text context_name (get (codes "context") d)) read l b.1 in
-    let t = bind_ok (transaction_of place (get (codes "fields") d)) (λ t. Ok (set t)) l c.1 in
-    subst (λ (y : Line). LineFits n y) (ok_is (set t.0) l t.2) tt
+    let x = bind_ok (context_at place (get (codes "context") d)) read l b.1 in
+    let t = bind_ok (transaction_of place (get (codes "fields") d)) (λ t. Ok (set x.0 t)) l x.2 in
+    subst (λ (y : Line). LineFits n y) (ok_is (set x.0 t.0) l t.2) tt
 
 take_fits : (place n : ℕ) (d : Data) (l : Line) → take_of place n d ≡ Ok l → LineFits n l
 unfolding take_of
@@ -117,14 +118,14 @@ show_fits : (place n : ℕ) (d : Data) (l : Line) → show_of place n d ≡ Ok l
 unfolding show_of
 show_fits place n d l e =
     let at = get (codes "at") d in
-    let show : Actor → Field → Line = λ who f. lines.Show (shows.One who f) in
-    let named : Actor → Result Line ReadFault = λ who. field_of place (get (codes "field") d) >>= λ f. Ok (show who f) in
-    let test = is_text context_name (get (codes "context") d) in
-    let a = asks_ok place (has_only (is_among show_keys) d) (actor_of place n at >>= λ who. asks place test (named who)) l e in
-    let who = bind_ok (actor_of place n at) (λ who. asks place test (named who)) l a.1 in
-    let b = asks_ok place test (named who.0) l who.2 in
-    let f = bind_ok (field_of place (get (codes "field") d)) (λ f. Ok (show who.0 f)) l b.1 in
-    subst (λ (y : Line). LineFits n y) (ok_is (show who.0 f.0) l f.2) (actor_fits place n at who.0 who.1)
+    let show : Actor → ContextId → Field → Line = λ who x f. lines.Show (shows.One who x f) in
+    let named : Actor → ContextId → Result Line ReadFault = λ who x. field_of place (get (codes "field") d) >>= λ f. Ok (show who x f) in
+    let found = context_at place (get (codes "context") d) in
+    let a = asks_ok place (has_only (is_among show_keys) d) (actor_of place n at >>= λ who. found >>= named who) l e in
+    let who = bind_ok (actor_of place n at) (λ who. found >>= named who) l a.1 in
+    let x = bind_ok found (named who.0) l who.2 in
+    let f = bind_ok (field_of place (get (codes "field") d)) (λ f. Ok (show who.0 x.0 f)) l x.2 in
+    subst (λ (y : Line). LineFits n y) (ok_is (show who.0 x.0 f.0) l f.2) (actor_fits place n at who.0 who.1)
 
 line_fits : (place n : ℕ) (d : Data) (l : Line) → line_of place n d ≡ Ok l → LineFits n l
 unfolding line_of
@@ -156,8 +157,8 @@ lines_fit place n (item d ds) ls within e =
 
 -- ---- the whole
 
-with_types_fits : (types : List (List ℕ)) (tabs steps : Items) (s : Scenario) → length types ≤ 16 → items_len tabs ≤ 1 → with_types types tabs steps ≡ Ok s → Fits s
-with_types_fits types tabs steps s few one e =
+with_types_fits : (types : List (List ℕ)) (tabs steps : Items) (s : Scenario) → length types ≤ 16 → items_len tabs ≤ 64 → with_types types tabs steps ≡ Ok s → Fits s
+with_types_fits types tabs steps s few listed e =
     let made : List StartTab → List Line → Scenario = λ ts ls. record { config = record { types = types; tabs = ts }; lines = ls } in
     let a = bind_ok (tabs_of 100001 (length types) tabs) (λ ts. lines_of 1 (length types) steps >>= λ ls. Ok (made ts ls)) s e in
     let b = bind_ok (lines_of 1 (length types) steps) (λ ls. Ok (made a.0 ls)) s a.2 in
@@ -173,17 +174,17 @@ scenario_fits : (d : Data) (s : Scenario) → scenario_of d ≡ Ok s → Fits s
 unfolding scenario_of
 scenario_fits d s e =
     let rest : List (List ℕ) → Items → Result Scenario ReadFault = λ types tabs. or_shape 0 (option_and_then as_array (get (codes "steps") d)) >>= λ steps. with_types types tabs steps in
-    let listed : List (List ℕ) → Result Scenario ReadFault = λ types. items_in 0 (get (codes "tabs") d) >>= λ tabs. asks 0 (leb (items_len tabs) 1) (rest types tabs) in
+    let listed : List (List ℕ) → Result Scenario ReadFault = λ types. items_in 0 (get (codes "tabs") d) >>= λ tabs. asks 0 (leb (items_len tabs) 64) (rest types tabs) in
     let begun = processes_of (get (codes "processes") d) >>= listed in
     let versioned = or_shape 0 (number_in (get (codes "version") d)) >>= λ version. asks 0 (nat_eq version 1) begun in
     let a = asks_ok 0 (has_only (is_among top_keys) d) versioned s e in
     let version = bind_ok (or_shape 0 (number_in (get (codes "version") d))) (λ version. asks 0 (nat_eq version 1) begun) s a.1 in
     let b = asks_ok 0 (nat_eq version.0 1) begun s version.2 in
     let types = bind_ok (processes_of (get (codes "processes") d)) listed s b.1 in
-    let tabs = bind_ok (items_in 0 (get (codes "tabs") d)) (λ tabs. asks 0 (leb (items_len tabs) 1) (rest types.0 tabs)) s types.2 in
-    let few = asks_ok 0 (leb (items_len tabs.0) 1) (rest types.0 tabs.0) s tabs.2 in
+    let tabs = bind_ok (items_in 0 (get (codes "tabs") d)) (λ tabs. asks 0 (leb (items_len tabs) 64) (rest types.0 tabs)) s types.2 in
+    let few = asks_ok 0 (leb (items_len tabs.0) 64) (rest types.0 tabs.0) s tabs.2 in
     let steps = bind_ok (or_shape 0 (option_and_then as_array (get (codes "steps") d))) (λ steps. with_types types.0 tabs.0 steps) s few.1 in
-    with_types_fits types.0 tabs.0 steps.0 s (few_processes (get (codes "processes") d) types.0 types.1) (leb-true (items_len tabs.0) 1 few.0) steps.2
+    with_types_fits types.0 tabs.0 steps.0 s (few_processes (get (codes "processes") d) types.0 types.1) (leb-true (items_len tabs.0) 64 few.0) steps.2
 
 pub reading_fits : (bytes : List ℕ) (r : Result Scenario ReadFault) → Gives r (reading bytes) → IfOk r Fits
 reading_fits bytes (Ok s) given = let a = bind_ok (or_unread (data_of bytes)) scenario_of s given in scenario_fits a.0 s a.2

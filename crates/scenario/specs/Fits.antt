@@ -16,11 +16,11 @@ ActorFits n (actors.Process p) = p.0 < n
 
 abbrev pub LineFits : ℕ → Line → Type 0
 LineFits n (lines.Step step) = StepFits n step
-LineFits n (lines.Show (shows.One who field)) = ActorFits n who
+LineFits n (lines.Show (shows.One who context field)) = ActorFits n who
 
--- at most 16 processes, at most one tab, at most 20,000 steps, and process numbers that exist
+-- at most 16 processes, at most 64 tabs, at most 20,000 steps, and process numbers that exist
 pub record Fits (s : Scenario) : Type 0 where
   pub processes : length s.config.types ≤ 16
-  pub tabs : length s.config.tabs ≤ 1
+  pub tabs : length s.config.tabs ≤ 64
   pub steps : length s.lines ≤ 20000
   pub lines : AllByRecursion (LineFits (length s.config.types)) s.lines

@@ -7,14 +7,17 @@ use Rattle.std.specs.Str.{is_utf8}
 use Rattle.serde_json.specs.Data.{Data, Items, no_items, item}
 use Rattle.serde_json.specs.Read.{read as read_text}
 use Rattle.serde_json.specs.Events.{items_len}
-use Rattle.serde_json.specs.Find.{get, as_str, as_bool, as_array}
+use Rattle.serde_json.specs.Find.{get, as_str, as_array}
 use Rattle.fission_ids.specs.declared.process.ProcId.{ProcId}
 use Rattle.fission_ids.specs.declared.process.ProcSet.{ProcSet}
 use Rattle.fission_ids.specs.ProcSet.{has, with}
+use Rattle.fission_ids.specs.declared.context.ContextId.{ContextId}
+use Rattle.fission_ids.specs.Ids.{context_of}
 use Rattle.field_table.specs.declared.field.Field.{Field}
 use Rattle.field_table.specs.declared.value.Value.{Value}
-use Rattle.field_table.specs.declared.value.Value.TheVariants.{Flag}
-use Rattle.field_table.specs.Field.{fields, name, named}
+use Rattle.field_table.specs.declared.value.ValueFault.{ValueFault}
+use Rattle.field_table.specs.Field.{fields, name, kind}
+use Rattle.field_table.specs.Reading.{value_of}
 use Rattle.transaction.specs.Transaction.{Changes}
 use Rattle.wire_msgs.specs.declared.action.ParentAction.TheVariants as actions
 use Rattle.wire_msgs.specs.declared.config.StartTab.{StartTab}
@@ -28,7 +31,7 @@ use Rattle.scenario.specs.declared.line.Line.{Line}
 use Rattle.scenario.specs.declared.line.Line.TheVariants as lines
 use Rattle.scenario.specs.declared.line.Scenario.{Scenario}
 use Rattle.scenario.specs.Gives.{◌>>=◌, or_shape, asks}
-use Rattle.scenario.specs.Members.{top_keys, tab_keys, set_keys, take_keys, show_keys, is_among, is_field_name, has_only, has_member, is_text, number_in}
+use Rattle.scenario.specs.Members.{top_keys, tab_keys, set_keys, take_keys, show_keys, is_among, field_named, is_field_name, has_only, has_member, is_text, number_in}
 
 -- ---- processes and tabs
 
@@ -72,22 +75,24 @@ tabs_of place n (item d ds) = tab_of place n d >>= λ t. tabs_of (place + 1) n d
 
 -- ---- steps
 
--- the one context that a step may name
-unfoldable pub context_name : List ℕ
-context_name = codes "c0.1"
+-- the context that a member names
+unfoldable pub context_at : ℕ → Option Data → Result ContextId ReadFault
+context_at place found = or_shape place (option_and_then context_of (option_and_then as_str found))
 
-unfoldable pub value_of : ℕ → Data → Result Value ReadFault
-value_of place d = or_shape place (as_bool d) >>= λ b. Ok (Flag b)
+-- the value of a field, or a fault of shape where the field takes no such value
+abbrev pub or_no_value : ℕ → Result Value ValueFault → Result Value ReadFault
+or_no_value place (Ok v) = Ok v
+or_no_value place (Err fault) = Err (Shape place)
 
 -- the new value of a field, if it is named
-abbrev pub change_of : ℕ → Option Data → Result (Option Value) ReadFault
-change_of place None = Ok None
-change_of place (Some d) = value_of place d >>= λ v. Ok (Some v)
+abbrev pub change_of : ℕ → Field → Option Data → Result (Option Value) ReadFault
+change_of place f None = Ok None
+change_of place f (Some d) = or_no_value place (value_of (kind f) d) >>= λ v. Ok (Some v)
 
 -- the new values of these fields
 unfoldable pub changes_of : ℕ → List Field → Data → Result Changes ReadFault
 changes_of place [] d = Ok []
-changes_of place (f ∷ fs) d = change_of place (get (name f) d) >>= λ c. changes_of place fs d >>= λ cs. Ok (c ∷ cs)
+changes_of place (f ∷ fs) d = change_of place f (get (name f) d) >>= λ c. changes_of place fs d >>= λ cs. Ok (c ∷ cs)
 
 -- an object of one field at least, and its value
 unfoldable pub transaction_of : ℕ → Option Data → Result Changes ReadFault
@@ -97,8 +102,8 @@ unfoldable pub set_of : ℕ → Data → Result Line ReadFault
 set_of place d =
     asks place (has_only (is_among set_keys) d)
     (asks place (is_text (codes "parent") (get (codes "at") d))
-    (asks place (is_text context_name (get (codes "context") d))
-    (transaction_of place (get (codes "fields") d) >>= λ t. Ok (lines.Step (steps.ParentAct (actions.Set t))))))
+    (context_at place (get (codes "context") d) >>= λ context. transaction_of place (get (codes "fields") d) >>= λ t.
+    Ok (lines.Step (steps.ParentAct (actions.Set context t)))))
 
 unfoldable pub take_of : ℕ → ℕ → Data → Result Line ReadFault
 take_of place n d =
@@ -110,13 +115,13 @@ unfoldable pub actor_of : ℕ → ℕ → Option Data → Result Actor ReadFault
 actor_of place n found = if is_text (codes "parent") found then Ok actors.Parent else (process_of place n found >>= λ p. Ok (actors.Process p))
 
 unfoldable pub field_of : ℕ → Option Data → Result Field ReadFault
-field_of place found = or_shape place (option_and_then named (option_and_then as_str found))
+field_of place found = or_shape place (option_and_then field_named (option_and_then as_str found))
 
 unfoldable pub show_of : ℕ → ℕ → Data → Result Line ReadFault
 show_of place n d =
     asks place (has_only (is_among show_keys) d)
-    (actor_of place n (get (codes "at") d) >>= λ who. asks place (is_text context_name (get (codes "context") d))
-    (field_of place (get (codes "field") d) >>= λ f. Ok (lines.Show (shows.One who f))))
+    (actor_of place n (get (codes "at") d) >>= λ who. context_at place (get (codes "context") d) >>= λ context. field_of place (get (codes "field") d) >>= λ f.
+    Ok (lines.Show (shows.One who context f)))
 
 -- a step, by what it does
 unfoldable pub line_of : ℕ → ℕ → Data → Result Line ReadFault
@@ -144,7 +149,7 @@ unfoldable pub scenario_of : Data → Result Scenario ReadFault
 scenario_of d =
     asks 0 (has_only (is_among top_keys) d)
     (or_shape 0 (number_in (get (codes "version") d)) >>= λ version. asks 0 (version == 1)
-    (processes_of (get (codes "processes") d) >>= λ types. items_in 0 (get (codes "tabs") d) >>= λ tabs. asks 0 (nat_le (items_len tabs) 1)
+    (processes_of (get (codes "processes") d) >>= λ types. items_in 0 (get (codes "tabs") d) >>= λ tabs. asks 0 (nat_le (items_len tabs) 64)
     (or_shape 0 (option_and_then as_array (get (codes "steps") d)) >>= λ steps.
     with_types types tabs steps)))
 

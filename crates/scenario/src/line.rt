@@ -1,5 +1,5 @@
 use field_table::Field;
-use fission_ids::{ProcId, Seq};
+use fission_ids::{ContextId, ProcId, Seq};
 use journal::Step;
 use wire_msgs::Config;
 
@@ -13,8 +13,12 @@ pub enum Actor {
 /// What is shown.
 #[derive(Clone, Copy, Debug, PartialEq, Eq)]
 pub enum Show {
-    /// A field of the context, as one side has it.
-    One { who: Actor, field: Field },
+    /// A field of a context, as one side has it.
+    One {
+        who: Actor,
+        context: ContextId,
+        field: Field,
+    },
 }
 
 /// A step of a scenario.

@@ -2,8 +2,7 @@ ghost use Rattle.std.specs.Prelude.{◌≡◌, Bool, string_bytes};
 ghost use Rattle.std.specs.List.{list_all};
 ghost use Rattle.std.specs.BTreeMap.{keys};
 ghost use Rattle.serde_json.specs.View.{view};
-ghost use Rattle.field_table.specs.Field.{name};
-ghost use Rattle.scenario.specs.Members.{allows, has_only, has_member, is_field_name, is_text, number_in, seen};
+ghost use Rattle.scenario.specs.Members.{allows, field_named, has_only, has_member, is_text, may_be_named, number_in, seen};
 
 use field_table::Field;
 use serde_json::{Map, Value};
@@ -46,14 +45,25 @@ fn allows(kind: Kind, key: &str) -> bool
         Kind::Set => key == "do" || key == "at" || key == "context" || key == "fields",
         Kind::Take => key == "do" || key == "at",
         Kind::Show => key == "do" || key == "at" || key == "context" || key == "field",
-        Kind::Fields => is_field_name(key),
+        Kind::Fields => field_named(key).is_some(),
     }
 }
 
-fn is_field_name(key: &str) -> bool
-    ensures { result ≡ is_field_name key.now }
+/// The field of a name, if a scenario may name it.
+#[tactic(auto, unfolding(crate::specs::Members::field_named))]
+pub fn field_named(name: &str) -> Option<Field>
+    ensures { result ≡ field_named name.now }
 {
-    Field::ALL.iter().any(|f| key == f.name())
+    Field::named(name).filter(|f| may_be_named(*f))
+}
+
+fn may_be_named(f: Field) -> bool
+    ensures { result ≡ may_be_named f }
+{
+    match f {
+        Field::CurrentInnerWindowId | Field::OpenerId | Field::FullZoom | Field::TextZoom => false,
+        _ => true,
+    }
 }
 
 /// Whether the value is an object with a member.

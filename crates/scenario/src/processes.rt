@@ -109,7 +109,7 @@ pub fn items_in(place: u32, found: Option<&Value>) -> Result<&[Value], ReadFault
 /// The tabs that are open at the start.
 pub fn tabs_of(alloc: Global, count: u8, values: &[Value]) -> Result<Seq<StartTab>, ReadFault>
     requires count { count ≤ 16 }
-    requires few { length values.now ≤ 1 }
+    requires few { length values.now ≤ 64 }
     ensures exact { Gives result (tabs_of 100001 count (items_view values.now)) }
 {
     let mut tabs = Seq::new(alloc);

@@ -16,7 +16,7 @@ use wire_msgs::Config;
 
 const VERSION: u64 = 1;
 
-const MAX_TABS: usize = 1;
+const MAX_TABS: usize = 64;
 
 /// The scenario that all the bytes read as, or why they don't.
 pub fn read(alloc: Global, bytes: &[u8]) -> Result<Scenario, ReadFault>
@@ -77,7 +77,7 @@ fn with_types(
     steps: &[Value],
 ) -> Result<Scenario, ReadFault>
     requires types { length types ≤ 16 }
-    requires tabs { length tabs.now ≤ 1 }
+    requires tabs { length tabs.now ≤ 64 }
     ensures { Gives result (with_types types (items_view tabs.now) (items_view steps.now)) }
 {
     let count = types.len() as u8;

@@ -1,16 +1,19 @@
-ghost use Rattle.std.specs.Prelude.{◌≡◌, ◌≤◌};
+ghost use Rattle.std.specs.Prelude.{◌≡◌, ◌≤◌, true, IfOk};
 ghost use Rattle.serde_json.specs.View.{view, items_view};
-ghost use Rattle.field_table.specs.Field.{fields};
+ghost use Rattle.field_table.specs.Field.{fields, kind};
+ghost use Rattle.field_table.specs.Reading.{value_of};
+ghost use Rattle.field_table.specs.Value.{is_of};
+ghost use Rattle.transaction.specs.Transaction.{are_of};
 ghost use Rattle.scenario.specs.Gives.{Gives};
 ghost use Rattle.scenario.specs.Members.{seen};
-ghost use Rattle.scenario.specs.Reading.{lines_of, line_of, set_of, take_of, show_of, actor_of, field_of, transaction_of, changes_of, change_of, value_of};
+ghost use Rattle.scenario.specs.Reading.{lines_of, line_of, set_of, take_of, show_of, context_at, actor_of, field_of, transaction_of, changes_of, change_of, or_no_value};
 
 use crate::fault::ReadFault;
 use crate::line::{Actor, Line, Show};
-use crate::members::{Kind, has_member, has_only, is_text};
+use crate::members::{Kind, field_named, has_member, has_only, is_text};
 use crate::processes::process_of;
-use field_table::Field;
-use fission_ids::Seq;
+use field_table::{Field, ValueFault};
+use fission_ids::{ContextId, Seq};
 use journal::Step;
 use serde_json::Value;
 use std::alloc::Global;
@@ -18,9 +21,6 @@ use transaction::Transaction;
 use wire_msgs::ParentAction;
 
 const MAX_STEPS: u32 = 20_000;
-
-// The one context that a step may name.
-const CONTEXT: &str = "c0.1";
 
 /// The steps, of which there are at most 20,000.
 pub fn lines_of(alloc: Global, count: u8, values: &[Value]) -> Result<Seq<Line>, ReadFault>
@@ -35,18 +35,18 @@ pub fn lines_of(alloc: Global, count: u8, values: &[Value]) -> Result<Seq<Line>,
                 place: MAX_STEPS + 1,
             });
         }
-        lines.push(line_of(place, count, v)?)?;
+        lines.push(line_of(alloc, place, count, v)?)?;
         place += 1;
     }
     Ok(lines)
 }
 
 #[tactic(auto, unfolding(crate::specs::Reading::line_of))]
-fn line_of(place: u32, count: u8, v: &Value) -> Result<Line, ReadFault>
+fn line_of(alloc: Global, place: u32, count: u8, v: &Value) -> Result<Line, ReadFault>
     ensures { Gives result (line_of place count (view v.now)) }
 {
     if is_text(v.get("do"), "set") {
-        set_of(place, v)
+        set_of(alloc, place, v)
     } else if is_text(v.get("do"), "take") {
         take_of(place, count, v)
     } else if is_text(v.get("do"), "show") {
@@ -56,8 +56,8 @@ fn line_of(place: u32, count: u8, v: &Value) -> Result<Line, ReadFault>
     }
 }
 
-#[tactic(auto, unfolding(crate::specs::Reading::set_of, crate::specs::Reading::context_name))]
-fn set_of(place: u32, v: &Value) -> Result<Line, ReadFault>
+#[tactic(auto, unfolding(crate::specs::Reading::set_of))]
+fn set_of(alloc: Global, place: u32, v: &Value) -> Result<Line, ReadFault>
     ensures { Gives result (set_of place (view v.now)) }
 {
     if !has_only(v, Kind::Set) {
@@ -66,12 +66,10 @@ fn set_of(place: u32, v: &Value) -> Result<Line, ReadFault>
     if !is_text(v.get("at"), "parent") {
         return Err(ReadFault::Shape { place });
     }
-    if !is_text(v.get("context"), CONTEXT) {
-        return Err(ReadFault::Shape { place });
-    }
-    let fields = transaction_of(place, v.get("fields"))?;
+    let context = context_at(place, v.get("context"))?;
+    let fields = transaction_of(alloc, place, v.get("fields"))?;
     Ok(Line::Step(Step::ParentAct {
-        action: ParentAction::Set { fields },
+        action: ParentAction::Set { context, fields },
     }))
 }
 
@@ -86,7 +84,7 @@ fn take_of(place: u32, count: u8, v: &Value) -> Result<Line, ReadFault>
     Ok(Line::Step(Step::Take { p }))
 }
 
-#[tactic(auto, unfolding(crate::specs::Reading::show_of, crate::specs::Reading::context_name))]
+#[tactic(auto, unfolding(crate::specs::Reading::show_of))]
 fn show_of(place: u32, count: u8, v: &Value) -> Result<Line, ReadFault>
     ensures { Gives result (show_of place count (view v.now)) }
 {
@@ -94,11 +92,24 @@ fn show_of(place: u32, count: u8, v: &Value) -> Result<Line, ReadFault>
         return Err(ReadFault::Shape { place });
     }
     let who = actor_of(place, count, v.get("at"))?;
-    if !is_text(v.get("context"), CONTEXT) {
-        return Err(ReadFault::Shape { place });
-    }
+    let context = context_at(place, v.get("context"))?;
     let field = field_of(place, v.get("field"))?;
-    Ok(Line::Show(Show::One { who, field }))
+    Ok(Line::Show(Show::One {
+        who,
+        context,
+        field,
+    }))
+}
+
+// The context that a member names.
+#[tactic(auto, unfolding(crate::specs::Reading::context_at))]
+fn context_at(place: u32, found: Option<&Value>) -> Result<ContextId, ReadFault>
+    ensures { Gives result (context_at place (seen found.entry)) }
+{
+    match found.and_then(Value::as_str).and_then(ContextId::parse) {
+        None => Err(ReadFault::Shape { place }),
+        Some(context) => Ok(context),
+    }
 }
 
 // The parent, or the number of a process.
@@ -117,14 +128,18 @@ fn actor_of(place: u32, count: u8, found: Option<&Value>) -> Result<Actor, ReadF
 fn field_of(place: u32, found: Option<&Value>) -> Result<Field, ReadFault>
     ensures { Gives result (field_of place (seen found.entry)) }
 {
-    match found.and_then(Value::as_str).and_then(Field::named) {
+    match found.and_then(Value::as_str).and_then(field_named) {
         None => Err(ReadFault::Shape { place }),
         Some(field) => Ok(field),
     }
 }
 
 #[tactic(auto, unfolding(crate::specs::Reading::transaction_of))]
-fn transaction_of(place: u32, found: Option<&Value>) -> Result<Transaction, ReadFault>
+fn transaction_of(
+    alloc: Global,
+    place: u32,
+    found: Option<&Value>,
+) -> Result<Transaction, ReadFault>
     ensures { Gives result (transaction_of place (seen found.entry)) }
 {
     let Some(v) = found else {
@@ -136,37 +151,48 @@ fn transaction_of(place: u32, found: Option<&Value>) -> Result<Transaction, Read
     if !has_member(v) {
         return Err(ReadFault::Shape { place });
     }
-    changes_of(place, v)
+    changes_of(alloc, place, v)
 }
 
 // Going by the fields and not by the members gives the changes by number.
-fn changes_of(place: u32, v: &Value) -> Result<Transaction, ReadFault>
+fn changes_of(alloc: Global, place: u32, v: &Value) -> Result<Transaction, ReadFault>
     ensures { Gives result (changes_of place fields (view v.now)) }
 {
     let mut changes = Transaction::new();
     for f in Field::ALL {
-        if let Some(value) = change_of(place, v.get(f.name()))? {
+        if let Some(value) = change_of(alloc, place, f, v.get(f.name()))? {
             changes.set(f, value);
         }
     }
     Ok(changes)
 }
 
-fn change_of(place: u32, found: Option<&Value>) -> Result<Option<field_table::Value>, ReadFault>
-    ensures { Gives result (change_of place (seen found.entry)) }
+// The new value of a field, if it's named.
+fn change_of(
+    alloc: Global,
+    place: u32,
+    f: Field,
+    found: Option<&Value>,
+) -> Result<Option<field_table::Value>, ReadFault>
+    ensures exact { Gives result (change_of place f (seen found.entry)) }
+    ensures kind { IfOk result (λ c. are_of (kind f) c ≡ true) }
 {
     match found {
         None => Ok(None),
-        Some(v) => Ok(Some(value_of(place, v)?)),
+        Some(v) => Ok(Some(value_of(alloc, place, f, v)?)),
     }
 }
 
-#[tactic(auto, unfolding(crate::specs::Reading::value_of))]
-fn value_of(place: u32, v: &Value) -> Result<field_table::Value, ReadFault>
-    ensures { Gives result (value_of place (view v.now)) }
+// The value of a field.
+fn value_of(alloc: Global, place: u32, f: Field, v: &Value) -> Result<field_table::Value, ReadFault>
+    ensures exact { Gives result (or_no_value place (value_of (kind f) (view v.now))) }
+    ensures kind { IfOk result (λ v. is_of (kind f) v ≡ true) }
 {
-    match v.as_bool() {
-        None => Err(ReadFault::Shape { place }),
-        Some(on) => Ok(field_table::Value::Flag(on)),
+    match field_table::Value::read(alloc, f, v) {
+        Ok(value) => Ok(value),
+        Err(ValueFault::OutOfMemory) => Err(ReadFault::OutOfMemory),
+        Err(ValueFault::WrongKind | ValueFault::TooLong { .. } | ValueFault::OutOfRange { .. }) => {
+            Err(ReadFault::Shape { place })
+        }
     }
 }

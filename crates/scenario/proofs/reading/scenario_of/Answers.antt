@@ -14,17 +14,17 @@ use Rattle.scenario.proofs.Turns.{items_len_view}
 use Rattle.scenario.proofs.reading.scenario_of.Goals as goal
 
 scenario_is : (d : Data) (types : List (List ℕ)) (tabs steps : Items) → true ≡ has_only (is_among top_keys) d → number_in (get (codes "version") d) ≡ Some 1 → processes_of (get (codes "processes") d) ≡ Ok types
-    → items_in 0 (get (codes "tabs") d) ≡ Ok tabs → items_len tabs ≤ 1 → or_shape 0 (option_and_then as_array (get (codes "steps") d)) ≡ Ok steps → scenario_of d ≡ with_types types tabs steps
+    → items_in 0 (get (codes "tabs") d) ≡ Ok tabs → items_len tabs ≤ 64 → or_shape 0 (option_and_then as_array (get (codes "steps") d)) ≡ Ok steps → scenario_of d ≡ with_types types tabs steps
 unfolding scenario_of
 scenario_is d types tabs steps only version processes listed few stepped =
     let named : has_only (is_among top_keys) d ≡ true = sym only in
-    let one : leb (items_len tabs) 1 ≡ true = le-leb (items_len tabs) 1 few in
+    let one : leb (items_len tabs) 64 ≡ true = le-leb (items_len tabs) 64 few in
     rw (named, version, processes, listed, one, stepped) refl
 
 pub returns : goal.returns
 returns c =
     let version : c.number_in.result ≡ Some 1 = search rules in
-    let few : items_len (items_view c.in_ok-tabs.tabs.now) ≤ 1 = omega (arith, c.if-tabs-gt-MAX_TABS.false, items_len_view c.in_ok-tabs.tabs.now) in
+    let few : items_len (items_view c.in_ok-tabs.tabs.now) ≤ 64 = omega (arith, c.if-tabs-gt-MAX_TABS.false, items_len_view c.in_ok-tabs.tabs.now) in
     let is = scenario_is (view c.args.v.now) c.in_ok-types.types (items_view c.in_ok-tabs.tabs.now) (items_view c.in_ok-steps.steps.now) c.if-not-has_only.ensures
     (ap number_in (sym c.get.ensures) ∙ sym c.number_in.ensures ∙ version)
     (ap processes_of (sym c.get-2.ensures) ∙ c.in_ok-types.ensures.exact)

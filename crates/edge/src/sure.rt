@@ -53,7 +53,9 @@ impl Source for SureSource {
 pub struct SureSink;
 
 impl SureSink {
-    pub fn new() -> SureSink {
+    pub fn new() -> SureSink
+        ensures { result ≡ record {} }
+    {
         SureSink
     }
 }

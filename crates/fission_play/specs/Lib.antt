@@ -1,4 +1,3 @@
-pub mod Pieces
 pub mod Report
 pub mod Played
 pub mod Status

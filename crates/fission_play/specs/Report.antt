@@ -1,24 +1,16 @@
 -- The report of a scenario: its lines, each a function of the journal so far.
-use Rattle.std.specs.Prelude.{ℕ, ◌+◌, List, [], ◌∷◌, ◌++◌, length, true, false, Option, None, Some, codes}
-use Rattle.std.specs.List.{flat_map}
+use Rattle.std.specs.Prelude.{ℕ, ◌+◌, List, [], ◌∷◌, ◌++◌, length, Option, codes}
 use Rattle.std.specs.Fmt.{decimal}
+use Rattle.fission_ids.specs.declared.context.ContextId.{ContextId}
+use Rattle.fission_ids.specs.Ids.{context_text}
 use Rattle.field_table.specs.declared.field.Field.{Field}
 use Rattle.field_table.specs.declared.value.Value.{Value}
-use Rattle.field_table.specs.declared.value.Value.TheVariants.{Flag}
 use Rattle.field_table.specs.Field.{name}
-use Rattle.wire_msgs.specs.declared.action.ParentAction.TheVariants as actions
 use Rattle.wire_msgs.specs.declared.answer.Answer.{Answer}
-use Rattle.wire_msgs.specs.declared.answer.Answer.TheVariants.{Done, Parts, Refused}
-use Rattle.wire_msgs.specs.declared.answer.FieldMark.{FieldMark}
-use Rattle.wire_msgs.specs.declared.answer.FieldMark.TheVariants.{Applied}
-use Rattle.wire_msgs.specs.declared.answer.FieldNote.{FieldNote}
-use Rattle.wire_msgs.specs.declared.answer.PartNote.{PartNote}
-use Rattle.wire_msgs.specs.declared.answer.PartNote.TheVariants.{Commit}
-use Rattle.wire_msgs.specs.declared.answer.Refusal.{Refusal}
-use Rattle.wire_msgs.specs.declared.answer.Refusal.TheVariants.{NoContext, Empty}
 use Rattle.wire_msgs.specs.declared.config.Config.{Config}
 use Rattle.journal.specs.declared.entry.Step.{Step}
-use Rattle.journal.specs.declared.entry.Step.TheVariants.{ParentAct, Take}
+use Rattle.report_words.specs.Pieces.{joined, process_text}
+use Rattle.report_words.specs.Words.{step_text, answer_text, value_text}
 use Rattle.scenario.specs.declared.line.Actor.{Actor}
 use Rattle.scenario.specs.declared.line.Actor.TheVariants as actors
 use Rattle.scenario.specs.declared.line.Show.TheVariants.{One}
@@ -27,48 +19,6 @@ use Rattle.scenario.specs.declared.line.Line.TheVariants as lines
 use Rattle.scenario.specs.declared.line.Scenario.{Scenario}
 use Rattle.model.specs.View.{view, parent_view}
 use Rattle.model.specs.Next.{Run, started, stepped, answer_of}
-use Rattle.fission_play.specs.Pieces.{joined}
-
--- ---- the words of a line
-
--- `parent`, or `p` and the number of a process
-unfoldable pub actor_text : Actor → List ℕ
-actor_text actors.Parent = codes "parent"
-actor_text (actors.Process p) = joined (codes "p" ∷ decimal p.0 ∷ [])
-
--- what was done, and by whom
-unfoldable pub step_text : Step → List ℕ
-step_text (ParentAct (actions.Set t)) = codes "parent set"
-step_text (Take p) = joined (codes "p" ∷ decimal p.0 ∷ codes " take" ∷ [])
-
-unfoldable pub mark_text : FieldMark → List ℕ
-mark_text Applied = codes "a"
-
-unfoldable pub note_text : FieldNote → List ℕ
-note_text n = joined (codes " " ∷ name n.field ∷ codes "=" ∷ mark_text n.mark ∷ [])
-
--- the fields of a commit
-abbrev pub notes_in : PartNote → List FieldNote
-notes_in (Commit notes) = notes
-
-unfoldable pub part_text : PartNote → List ℕ
-part_text part = codes " commit c0.1" ++ flat_map note_text (notes_in part)
-
--- the number of a refusal
-abbrev pub refusal_number : Refusal → ℕ
-refusal_number NoContext = 3
-refusal_number Empty = 9
-
-unfoldable pub answer_text : Answer → List ℕ
-answer_text Done = codes "ok"
-answer_text (Parts notes) = codes "ok" ++ flat_map part_text notes
-answer_text (Refused why) = joined (codes "refused " ∷ decimal (refusal_number why) ∷ [])
-
--- a value, or `-` where there is none
-unfoldable pub value_text : Option Value → List ℕ
-value_text None = codes "-"
-value_text (Some (Flag true)) = codes "true"
-value_text (Some (Flag false)) = codes "false"
 
 -- ---- the lines
 
@@ -79,9 +29,15 @@ head_text c = joined (codes "fission processes " ∷ decimal (length c.types) �
 unfoldable pub entry_text : ℕ → Step → Answer → List ℕ
 entry_text n step answer = joined (decimal n ∷ codes " " ∷ step_text step ∷ codes " " ∷ answer_text answer ∷ codes "\n" ∷ [])
 
--- the n-th line: a field, as one side shows it
-unfoldable pub shown_text : ℕ → Actor → Field → Option Value → List ℕ
-shown_text n who f value = joined (decimal n ∷ codes " " ∷ actor_text who ∷ codes " show c0.1 " ∷ name f ∷ codes " " ∷ value_text value ∷ codes "\n" ∷ [])
+-- `parent`, or `p` and the number of a process
+unfoldable pub actor_text : Actor → List ℕ
+actor_text actors.Parent = codes "parent"
+actor_text (actors.Process p) = process_text p
+
+-- the n-th line: a field of a context, as one side shows it
+unfoldable pub shown_text : ℕ → Actor → ContextId → Field → Option Value → List ℕ
+shown_text n who x f value =
+    joined (decimal n ∷ codes " " ∷ actor_text who ∷ codes " show " ∷ context_text x ∷ codes " " ∷ name f ∷ codes " " ∷ value_text value ∷ codes "\n" ∷ [])
 
 -- the end, and the number of entries
 unfoldable pub end_text : ℕ → List ℕ
@@ -89,10 +45,10 @@ end_text n = joined (codes "end " ∷ decimal n ∷ codes "\n" ∷ [])
 
 -- ---- the whole
 
--- what a side shows of a field
-abbrev pub shown : Run → Actor → Field → Option Value
-shown r actors.Parent f = parent_view r.config f r.journal
-shown r (actors.Process p) f = view r.config p.0 f r.journal
+-- what a side shows of a field of a context
+abbrev pub shown : Run → Actor → ContextId → Field → Option Value
+shown r actors.Parent x f = parent_view r.config x f r.journal
+shown r (actors.Process p) x f = view r.config p.0 x f r.journal
 
 -- the run after a line
 abbrev pub after : Run → Line → Run
@@ -102,7 +58,7 @@ after r (lines.Show show) = r
 -- the n-th line
 abbrev pub line_text : ℕ → Run → Line → List ℕ
 line_text n r (lines.Step step) = entry_text n step (answer_of r.config r.journal step)
-line_text n r (lines.Show (One who f)) = shown_text n who f (shown r who f)
+line_text n r (lines.Show (One who x f)) = shown_text n who x f (shown r who x f)
 
 -- the lines from the n-th on
 unfoldable pub body_text : ℕ → Run → List Line → List ℕ

@@ -14,7 +14,7 @@ use edge::{Failed, Sink, write_all};
 use fission_ids::{Duplicate, OutOfMemory};
 use journal::Step;
 use scenario::{Actor, Line, Scenario, Show};
-use std::alloc::{AllocError, Global};
+use std::alloc::Global;
 use wire_msgs::Config;
 use world::World;
 
@@ -25,16 +25,6 @@ pub enum ReportFault {
     Failed,
     /// Memory wasn't there.
     OutOfMemory,
-}
-
-impl From<AllocError> for ReportFault {
-    ghost use Rattle.fission_play.specs.declared.report.ReportFault.TheVariants as faults;
-
-    ghost from_gives = { λ _ e. e ≡ faults.OutOfMemory };
-
-    fn from(_e: AllocError) -> ReportFault {
-        ReportFault::OutOfMemory
-    }
 }
 
 impl From<OutOfMemory> for ReportFault {
@@ -90,12 +80,16 @@ fn write_shown<K: Sink>(
     ensures failed { IsErrOf result ReportFault.Failed → Rose (K.faults sink.old) (K.faults sink.new) }
     ensures later { K.faults sink.old ≤ K.faults sink.new }
 {
-    let Show::One { who, field } = show;
+    let Show::One {
+        who,
+        context,
+        field,
+    } = show;
     let value = match who {
-        Actor::Parent => world.parent_field(field),
-        Actor::Process(p) => world.process_field(p, field),
+        Actor::Parent => world.parent_field(context, field),
+        Actor::Process(p) => world.process_field(p, context, field),
     };
-    let line = shown_line(alloc, number, who, field, value)?;
+    let line = shown_line(alloc, number, who, context, field, value)?;
     write_all(sink, line.as_bytes())?;
     Ok(())
 }

@@ -10,8 +10,12 @@ pub enum Status {
     Memory,
     /// The words aren't the command's.
     Words,
-    /// The bytes aren't a scenario.
+    /// The bytes aren't JSON.
+    Unread,
+    /// The bytes are JSON and no scenario.
     Shape,
+    /// There are more bytes than are read.
+    TooLarge,
     /// The source failed.
     ReadFault,
     /// The sink failed.
@@ -27,7 +31,9 @@ impl Status {
             Status::Done => 0,
             Status::Memory => 1,
             Status::Words => 2,
+            Status::Unread => 3,
             Status::Shape => 4,
+            Status::TooLarge => 5,
             Status::ReadFault => 6,
             Status::WriteFault => 7,
         }

@@ -1,5 +1,5 @@
-//! A link from one side of a run to another: what is sent is taken in its order, each once, and nothing is lost.
-//! Both ends work in constant time. Nothing here knows what goes over a link.
+//! A link from one side of a run to another: what is sent is taken in its order, each once, and nothing is
+//! lost. Both ends work in constant time. Nothing here knows what goes over a link.
 #![tactic(auto)]
 
 mod link;

@@ -64,8 +64,8 @@ impl<T: Drop> Link<T> {
         Ok(())
     }
 
-    /// Leaves the first `keep` items and drops the others, the last ones sent. Where no more wait, nothing changes.
-    /// The time is linear in what is dropped.
+    /// Leaves the first `keep` items and drops the others, the last ones sent. Where no more wait, nothing
+    /// changes. The time is linear in what is dropped.
     pub fn cut(&mut self, keep: usize)
         ensures { self.new ≡ take keep self.old }
     {

@@ -2,9 +2,11 @@ ghost use Rattle.std.specs.Prelude.{◌≡◌, ◌+◌, ◌-◌, ◌^◌, ◌<�
 
 use fission_ids::{Duplicate, Epoch, OutOfMemory};
 use std::marker::Model;
+use thiserror::Error;
 
 /// The clock is at the last epoch that there is, 2^64 - 1.
-#[derive(Clone, Copy, Debug, PartialEq, Eq)]
+#[derive(Clone, Copy, Debug, PartialEq, Eq, Error)]
+#[error("the clock is at its last epoch")]
 pub struct Worn;
 
 /// A process's count of commits, seen as the number of the last epoch that it gave.
@@ -38,7 +40,8 @@ impl Clock {
 
     /// Gives the next epoch. A clock at 2^64 - 1 is worn, and stays there.
     pub fn next(&mut self) -> Result<Epoch, Worn>
-        ensures ok { IfOk result (λ e. (e.0 ≡ self.old + 1) × (self.new ≡ self.old + 1) × (self.old < 2 ^ 64 - 1)) }
+        ensures ok { IfOk result
+            (λ e. (e.0 ≡ self.old + 1) × (self.new ≡ self.old + 1) × (self.old < 2 ^ 64 - 1)) }
         ensures worn { OnErr result ((self.old ≡ 2 ^ 64 - 1) × (self.new ≡ self.old)) }
     {
         if self.last.0 == u64::MAX {

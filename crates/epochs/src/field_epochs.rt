@@ -8,8 +8,8 @@ use field_table::{Field, FieldSet};
 use fission_ids::{Duplicate, Epoch, OutOfMemory};
 use std::marker::Model;
 
-/// The epoch of a process's last write to each field of a context, 0 where it wrote none. Seen as the list of these
-/// epochs by the fields' numbers.
+/// The epoch of a process's last write to each field of a context, 0 where it wrote none. Seen as the list of
+/// these epochs by the fields' numbers.
 #[derive(Debug, Drop)]
 pub struct FieldEpochs {
     epochs: [Epoch; 16],

@@ -3,9 +3,11 @@ ghost use Rattle.epochs.specs.Heard.{due};
 
 use fission_ids::{Duplicate, Epoch, OutOfMemory};
 use std::marker::Model;
+use thiserror::Error;
 
 /// A bundle said an epoch that isn't due.
-#[derive(Clone, Copy, Debug, PartialEq, Eq)]
+#[derive(Clone, Copy, Debug, PartialEq, Eq, Error)]
+#[error("a bundle said the epoch {}, where {} is due", .said.0, .due.0)]
 pub struct BadEpoch {
     /// The epoch that it said.
     pub said: Epoch,
@@ -42,12 +44,14 @@ impl Heard {
         self.last
     }
 
-    /// Records the epoch of a bundle. Due is the next epoch where the bundle has a commit, else the last one. Another
-    /// epoch is an error, and nothing is recorded.
+    /// Records the epoch of a bundle. Due is the next epoch where the bundle has a commit, else the last one.
+    /// Another epoch is an error, and nothing is recorded.
     pub fn note(&mut self, e: Epoch, commit: bool) -> Result<(), BadEpoch>
         requires { self.old < 2 ^ 64 - 1 }
         ensures ok { OnOk result ((e.0 ≡ due self.old commit) × (self.new ≡ e.0)) }
-        ensures bad { IfErr result (λ b. (e.0 ≢ due self.old commit) × (b.said ≡ e) × (b.due.0 ≡ due self.old commit) × (self.new ≡ self.old)) }
+        ensures bad { IfErr result
+            (λ b. (e.0 ≢ due self.old commit) × (b.said ≡ e)
+            × (b.due.0 ≡ due self.old commit) × (self.new ≡ self.old)) }
     {
         let due = if commit {
             Epoch(self.last.0 + 1)

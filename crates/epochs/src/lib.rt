@@ -1,5 +1,6 @@
-//! Counts of commits: a process's clock, what it last wrote to each field of a context, and what the parent has heard.
-//! By them a process tells which of the values that it gets are older than its own writes. Nothing here knows a value.
+//! Counts of commits: a process's clock, what it last wrote to each field of a context, and what the parent
+//! has heard. By them a process tells which of the values that it gets are older than its own writes. Nothing
+//! here knows a value.
 #![tactic(auto)]
 
 mod clock;

@@ -2,7 +2,12 @@
 use Rattle.std.specs.Prelude.{ℕ, List, [], ◌∷◌, true, false, Option, codes, find}
 use Rattle.std.specs.Str.{bytes_eq}
 use Rattle.field_table.specs.declared.field.Field.{Field}
-use Rattle.field_table.specs.declared.field.Field.TheVariants.{Name, Closed, ExplicitActive, CurrentInnerWindowId, OpenerId, FullZoom, TextZoom, Muted, MessageManagerGroup, UserAgentOverride, AllowContentRetargeting, SandboxFlags, IsInBFCache, Loading, DefaultLoadFlags, DisplayMode}
+use Rattle.field_table.specs.declared.field.Field.TheVariants.{Name, Closed, ExplicitActive}
+use Rattle.field_table.specs.declared.field.Field.TheVariants.{CurrentInnerWindowId, OpenerId, FullZoom}
+use Rattle.field_table.specs.declared.field.Field.TheVariants.{TextZoom, Muted, MessageManagerGroup}
+use Rattle.field_table.specs.declared.field.Field.TheVariants.{UserAgentOverride, AllowContentRetargeting}
+use Rattle.field_table.specs.declared.field.Field.TheVariants.{SandboxFlags, IsInBFCache, Loading}
+use Rattle.field_table.specs.declared.field.Field.TheVariants.{DefaultLoadFlags, DisplayMode}
 use Rattle.field_table.specs.declared.kind.Kind.{Kind}
 use Rattle.field_table.specs.declared.kind.Kind.TheVariants as kinds
 use Rattle.field_table.specs.declared.value.Value.{Value}
@@ -10,7 +15,9 @@ use Rattle.field_table.specs.Value.{initial_of}
 
 -- every field, by number
 abbrev pub fields : List Field
-fields = Name ∷ Closed ∷ ExplicitActive ∷ CurrentInnerWindowId ∷ OpenerId ∷ FullZoom ∷ TextZoom ∷ Muted ∷ MessageManagerGroup ∷ UserAgentOverride ∷ AllowContentRetargeting ∷ SandboxFlags ∷ IsInBFCache ∷ Loading ∷ DefaultLoadFlags ∷ DisplayMode ∷ []
+fields = Name ∷ Closed ∷ ExplicitActive ∷ CurrentInnerWindowId ∷ OpenerId ∷ FullZoom ∷ TextZoom ∷ Muted ∷
+    MessageManagerGroup ∷ UserAgentOverride ∷ AllowContentRetargeting ∷ SandboxFlags ∷ IsInBFCache ∷ Loading ∷
+    DefaultLoadFlags ∷ DisplayMode ∷ []
 
 -- the place of a field in a table
 abbrev pub number : Field → ℕ

@@ -1,5 +1,6 @@
 -- Sets of fields.
-use Rattle.std.specs.Prelude.{ℕ, ◌+◌, ◌*◌, ◌^◌, ◌==◌, Bool, List, [], ◌∷◌, map, bit_or, bit_and, if◌then◌else◌}
+use Rattle.std.specs.Prelude.{◌≡◌, ℕ, ◌+◌, ◌*◌, ◌^◌, ◌==◌, Bool, false, List, [], ◌∷◌, map, bit_or, bit_and}
+use Rattle.std.specs.Prelude.{if◌then◌else◌}
 use Rattle.std.specs.Int.{bit_at, bit_not, w16}
 use Rattle.field_table.specs.declared.field.Field.{Field}
 use Rattle.field_table.specs.declared.field_set.FieldSet.{FieldSet}
@@ -8,6 +9,10 @@ use Rattle.field_table.specs.Field.{fields, number}
 -- whether a field is in the set
 abbrev pub has : FieldSet → Field → Bool
 has s f = bit_at s.0 (number f) == 1
+
+-- no field is in the set
+abbrev pub IsEmpty : FieldSet → Type 0
+IsEmpty s = (f : Field) → has s f ≡ false
 
 -- the set with the field in it
 abbrev pub with : FieldSet → Field → FieldSet

@@ -1,5 +1,5 @@
 -- A table of one value for each field.
-use Rattle.std.specs.Prelude.{◌≡◌, List, map, slice_index_or, true, false}
+use Rattle.std.specs.Prelude.{◌≡◌, List, length, map, slice_index_or, true, false}
 use Rattle.field_table.specs.declared.field.Field.{Field}
 use Rattle.field_table.specs.declared.value.Value.{Value}
 use Rattle.field_table.specs.declared.value.Value.TheVariants.{Flag}
@@ -14,9 +14,10 @@ Table = List Value
 abbrev pub value_in : Table → Field → Value
 value_in t f = slice_index_or t (number f) (Flag false)
 
--- each value is of its field's kind
-abbrev pub IsTable : Table → Type 0
-IsTable t = (f : Field) → is_of (kind f) (value_in t f) ≡ true
+-- there is a value for each field, of the field's kind
+pub record IsTable (t : Table) : Type 0 where
+  pub len : length t ≡ length fields
+  pub kinds : (f : Field) → is_of (kind f) (value_in t f) ≡ true
 
 -- the table of a new context
 abbrev pub initial_table : Table

@@ -3,7 +3,6 @@ ghost use Rattle.field_table.specs.Field.{number, name, kind, named, initial};
 
 use crate::kind::Kind;
 use crate::value::Value;
-use std::alloc::Global;
 
 /// A synced field of a browsing context, in the order of the fields' numbers.
 #[derive(Clone, Copy, Debug, PartialEq, Eq)]
@@ -12,7 +11,7 @@ pub enum Field {
     Name,
     /// Whether the context was closed by a script.
     Closed,
-    /// Whether the embedder made the page active: 0 for active, 1 for inactive, 2 for as its parent is.
+    /// What the embedder says of whether the page is active, a number from 0 to 2.
     ExplicitActive,
     /// The window global that the context shows.
     CurrentInnerWindowId,
@@ -38,7 +37,7 @@ pub enum Field {
     Loading,
     /// The flags that each load in the context begins with, as bits.
     DefaultLoadFlags,
-    /// How an app's page is shown: 0 for in the browser, 1 for with little around it, 2 for alone, 3 for on the full screen.
+    /// How an app's page is shown, a number from 0 to 3.
     DisplayMode,
 }
 
@@ -135,9 +134,9 @@ impl Field {
     }
 
     /// What the field holds in a new context.
-    pub fn initial(self, alloc: Global) -> Value
+    pub fn initial(self) -> Value
         ensures { result ≡ initial self }
     {
-        self.kind().initial_value(alloc)
+        self.kind().initial_value()
     }
 }

@@ -1,7 +1,7 @@
 ghost use Rattle.std.specs.Prelude.{◌≡◌, ◌==◌, ◌&&◌, ◌||◌, not};
 ghost use Rattle.field_table.specs.declared.field.Field.{Field};
 ghost use Rattle.field_table.specs.Field.{number};
-ghost use Rattle.field_table.specs.FieldSet.{has, with, without, union, minus};
+ghost use Rattle.field_table.specs.FieldSet.{IsEmpty, has, with, without, union, minus};
 
 use crate::field::Field;
 use fission_ids::{Duplicate, OutOfMemory};
@@ -59,3 +59,8 @@ impl FieldSet {
         FieldSet(self.0 & !s.0)
     }
 }
+
+// The empty set has no field.
+fn empty_is_empty()
+    ensures { IsEmpty FieldSet.EMPTY }
+{}

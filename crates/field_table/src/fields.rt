@@ -1,12 +1,12 @@
-ghost use Rattle.std.specs.Prelude.{◌≡◌, true, length, OnOk, slice_set};
-ghost use Rattle.field_table.specs.Field.{number, kind};
+ghost use Rattle.std.specs.Prelude.{◌≡◌, ◌==◌, true, length, OnOk, slice_set, if◌then◌else◌};
+ghost use Rattle.field_table.specs.declared.field.Field.{Field};
+ghost use Rattle.field_table.specs.Field.{fields, number, kind};
 ghost use Rattle.field_table.specs.Table.{value_in, initial_table};
 ghost use Rattle.field_table.specs.Value.{is_of};
 
 use crate::field::Field;
 use crate::value::Value;
 use fission_ids::{Duplicate, OutOfMemory};
-use std::alloc::Global;
 use std::marker::Model;
 
 /// One value for each field, of its kind. Seen as the list of the values by the fields' numbers.
@@ -27,29 +27,36 @@ impl Model for Fields {
 
 impl Fields {
     /// What a new context has.
-    pub fn initial(alloc: Global) -> Fields
+    pub fn initial() -> Fields
         ensures { result ≡ initial_table }
     {
         Fields {
             values: [
-                Field::Name.initial(alloc),
-                Field::Closed.initial(alloc),
-                Field::ExplicitActive.initial(alloc),
-                Field::CurrentInnerWindowId.initial(alloc),
-                Field::OpenerId.initial(alloc),
-                Field::FullZoom.initial(alloc),
-                Field::TextZoom.initial(alloc),
-                Field::Muted.initial(alloc),
-                Field::MessageManagerGroup.initial(alloc),
-                Field::UserAgentOverride.initial(alloc),
-                Field::AllowContentRetargeting.initial(alloc),
-                Field::SandboxFlags.initial(alloc),
-                Field::IsInBFCache.initial(alloc),
-                Field::Loading.initial(alloc),
-                Field::DefaultLoadFlags.initial(alloc),
-                Field::DisplayMode.initial(alloc),
+                Field::Name.initial(),
+                Field::Closed.initial(),
+                Field::ExplicitActive.initial(),
+                Field::CurrentInnerWindowId.initial(),
+                Field::OpenerId.initial(),
+                Field::FullZoom.initial(),
+                Field::TextZoom.initial(),
+                Field::Muted.initial(),
+                Field::MessageManagerGroup.initial(),
+                Field::UserAgentOverride.initial(),
+                Field::AllowContentRetargeting.initial(),
+                Field::SandboxFlags.initial(),
+                Field::IsInBFCache.initial(),
+                Field::Loading.initial(),
+                Field::DefaultLoadFlags.initial(),
+                Field::DisplayMode.initial(),
             ],
         }
+    }
+
+    /// There is a value for each field.
+    pub fn covers_each_field(&self)
+        ensures { length self.now ≡ length fields }
+    {
+        let _ = &self.values;
     }
 
     /// The value of a field, which is of the field's kind.
@@ -63,7 +70,9 @@ impl Fields {
     /// Sets the value of a field. The others stay.
     pub fn put(&mut self, f: Field, v: Value)
         requires { is_of (kind f) v ≡ true }
-        ensures { self.new ≡ slice_set self.old (number f) v }
+        ensures whole { self.new ≡ slice_set self.old (number f) v }
+        ensures values { (g : Field) →
+            value_in self.new g ≡ (if number g == number f then v else value_in self.old g) }
     {
         self.values[f.number()] = v;
     }

@@ -3,7 +3,6 @@ ghost use Rattle.field_table.specs.Value.{initial_of};
 
 use crate::value::Value;
 use fission_ids::Text;
-use std::alloc::Global;
 
 /// What a field may hold, and what it holds in a new context.
 #[derive(Clone, Copy, Debug, PartialEq, Eq)]
@@ -30,13 +29,13 @@ pub enum Kind {
 
 impl Kind {
     // What a field of this kind holds in a new context.
-    pub(crate) fn initial_value(self, alloc: Global) -> Value
+    pub(crate) fn initial_value(self) -> Value
         ensures { result ≡ initial_of self }
     {
         match self {
             Kind::Flag { initial } => Value::Flag(initial),
             Kind::Number { max: _, initial } => Value::Number(initial),
-            Kind::Words => Value::Words(Text::empty(alloc)),
+            Kind::Words => Value::Words(Text::empty()),
             Kind::Window | Kind::Context => Value::Number(0),
         }
     }

@@ -3,7 +3,9 @@ ghost use Rattle.serde_json.specs.Find.{as_str};
 ghost use Rattle.serde_json.specs.View.{view};
 ghost use Rattle.field_table.specs.declared.value.ValueFault.TheVariants as faults;
 ghost use Rattle.field_table.specs.Field.{kind};
-ghost use Rattle.field_table.specs.Reading.{Gives, flag_in, number_in, short_text, window_in, context_in, value_of};
+ghost use Rattle.fission_ids.specs.Gives.{Gives};
+ghost use Rattle.field_table.specs.Reading.{is_memory, flag_value, number_value, text_value, window_value};
+ghost use Rattle.field_table.specs.Reading.{context_value, value_of};
 ghost use Rattle.field_table.specs.Value.{is_of};
 
 use crate::field::Field;
@@ -11,6 +13,7 @@ use crate::kind::Kind;
 use fission_ids::{ContextId, Duplicate, OutOfMemory, Text, WindowId};
 use serde_json::Value as Json;
 use std::alloc::Global;
+use thiserror::Error;
 
 // The most bytes that a text may have.
 const MAX_LEN: usize = 64;
@@ -20,7 +23,8 @@ const MAX_LEN: usize = 64;
 pub enum Value {
     /// True or false.
     Flag(bool),
-    /// A number. That of a window or a context is 0 for none, else its creator times 2 to the 32, plus its serial.
+    /// A number. That of a window or a context is 0 for none, else its creator times 2 to the 32, plus its
+    /// serial.
     Number(u64),
     /// A text.
     Words(Text),
@@ -37,13 +41,13 @@ impl Duplicate for Value {
 }
 
 impl Value {
-    /// The value of a field that a JSON value is. A flag is true or false, a number a whole number, a text a string, and
-    /// a window or a context the text of an id, or the number 0 for none. A number past the field's greatest, or one but 0
-    /// for an id, is OutOfRange, a string of more than 64 bytes is TooLong, and all else, a string that is no id of the
-    /// field's kind among it, is WrongKind.
+    /// The value of a field that a JSON value is. A flag is true or false, a number a whole number, a text a
+    /// string, and a window or a context the text of an id, or the number 0 for none. A number past the
+    /// field's greatest, or one but 0 for an id, is OutOfRange, a string of more than 64 bytes is TooLong,
+    /// and all else, a string that is no id of the field's kind among it, is WrongKind.
     #[tactic(auto, unfolding(crate::specs::Reading::value_of))]
     pub fn read(alloc: Global, f: Field, json: &Json) -> Result<Value, ValueFault>
-        ensures exact { Gives result (value_of (kind f) (view json.now)) }
+        ensures exact { Gives is_memory result (value_of (kind f) (view json.now)) }
         ensures kind { IfOk result (λ v. is_of (kind f) v ≡ true) }
     {
         match f.kind() {
@@ -57,14 +61,14 @@ impl Value {
 }
 
 fn read_flag(json: &Json) -> Result<Value, ValueFault>
-    ensures { result ≡ flag_in (view json.now) }
+    ensures { result ≡ flag_value (view json.now) }
 {
     let on = json.as_bool().ok_or(ValueFault::WrongKind)?;
     Ok(Value::Flag(on))
 }
 
 fn read_number(max: u64, json: &Json) -> Result<Value, ValueFault>
-    ensures { result ≡ number_in max (view json.now) }
+    ensures { result ≡ number_value max (view json.now) }
 {
     let n = json.as_u64().ok_or(ValueFault::WrongKind)?;
     if n <= max {
@@ -75,7 +79,7 @@ fn read_number(max: u64, json: &Json) -> Result<Value, ValueFault>
 }
 
 fn read_words(alloc: Global, json: &Json) -> Result<Value, ValueFault>
-    ensures { Gives result (short_text (as_str (view json.now))) }
+    ensures { Gives is_memory result (text_value (as_str (view json.now))) }
 {
     let text = json.as_str().ok_or(ValueFault::WrongKind)?;
     if text.len() > MAX_LEN {
@@ -87,7 +91,7 @@ fn read_words(alloc: Global, json: &Json) -> Result<Value, ValueFault>
 }
 
 fn read_window(json: &Json) -> Result<Value, ValueFault>
-    ensures { result ≡ window_in (view json.now) }
+    ensures { result ≡ window_value (view json.now) }
 {
     let Some(text) = json.as_str() else {
         return read_number(0, json);
@@ -97,7 +101,7 @@ fn read_window(json: &Json) -> Result<Value, ValueFault>
 }
 
 fn read_context(json: &Json) -> Result<Value, ValueFault>
-    ensures { result ≡ context_in (view json.now) }
+    ensures { result ≡ context_value (view json.now) }
 {
     let Some(text) = json.as_str() else {
         return read_number(0, json);
@@ -107,21 +111,25 @@ fn read_context(json: &Json) -> Result<Value, ValueFault>
 }
 
 /// Why a value of the input is no value of a field.
-#[derive(Clone, Copy, Debug, PartialEq, Eq)]
+#[derive(Clone, Copy, Debug, PartialEq, Eq, Error)]
 pub enum ValueFault {
     /// It is of another kind than the field.
+    #[error("a value of another kind than the field's")]
     WrongKind,
     /// It is a text of more bytes than the field takes.
+    #[error("a text of {len} bytes, where the field takes at most {MAX_LEN}")]
     TooLong {
         /// The text's number of bytes.
         len: u64,
     },
     /// It is a number that the field doesn't take.
+    #[error("the number {n}, which the field doesn't take")]
     OutOfRange {
         /// The number.
         n: u64,
     },
     /// Memory wasn't there.
+    #[error("{}", fission_ids::OutOfMemory)]
     OutOfMemory,
 }
 

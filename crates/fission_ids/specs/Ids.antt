@@ -1,5 +1,6 @@
 -- Ids: which numbers they have, and how they are written.
-use Rattle.std.specs.Prelude.{◌≡◌, ◌≢◌, ℕ, ◌+◌, ◌*◌, ◌≤◌, ◌==◌, Bool, nat_le, ◌&&◌, if◌then◌else◌, List, ◌++◌, length, drop, slice_index, Option, Some, None, codes, decimal}
+use Rattle.std.specs.Prelude.{◌≡◌, ◌≢◌, ℕ, ◌+◌, ◌*◌, ◌≤◌, ◌==◌, Bool, nat_le, ◌&&◌, if◌then◌else◌, List, ◌++◌}
+use Rattle.std.specs.Prelude.{length, drop, slice_index, Option, Some, None, codes, decimal}
 use Rattle.std.specs.List.{before_first, after_first}
 use Rattle.std.specs.Option.{option_map}
 use Rattle.std.specs.Str.{bytes_eq}
@@ -46,18 +47,21 @@ abbrev pub query_text : QueryId → List ℕ
 query_text q = codes "q" ++ dotted q.creator q.serial
 
 -- two numbers as one
-abbrev pub joined : ℕ → ℕ → ℕ
-joined creator serial = creator * 4294967296 + serial
+abbrev pub id_number : ℕ → ℕ → ℕ
+id_number creator serial = creator * 4294967296 + serial
 
 abbrev pub context_number : ContextId → ℕ
-context_number x = joined x.creator x.serial
+context_number x = id_number x.creator x.serial
 
 abbrev pub window_number : WindowId → ℕ
-window_number w = joined w.creator w.serial
+window_number w = id_number w.creator w.serial
 
 -- the same as `AreInRange`, as a test
 abbrev pub are_in_range : ℕ → ℕ → Bool
-are_in_range creator serial = nat_le creator 16 && nat_le 1 serial && nat_le serial 4294967295
+are_in_range creator serial =
+    nat_le creator 16
+    && nat_le 1 serial
+    && nat_le serial 4294967295
 
 abbrev pub is_dot : ℕ → Bool
 is_dot b = b == 46
@@ -75,7 +79,9 @@ unfoldable pub numbers_of : List ℕ → List ℕ → Option (ℕ × ℕ)
 numbers_of letter text =
     let creator = creator_in text in
     let serial = serial_in text in
-    if are_in_range creator serial && bytes_eq text (letter ++ dotted creator serial) then Some (creator, serial) else None
+    if are_in_range creator serial
+    && bytes_eq text (letter ++ dotted creator serial)
+    then Some (creator, serial) else None
 
 -- the context that a text names
 unfoldable pub context_of : List ℕ → Option ContextId
@@ -89,8 +95,16 @@ window_of text = option_map (λ n. record { creator = n.0; serial = n.1 }) (numb
 unfoldable pub query_of : List ℕ → Option QueryId
 query_of text = option_map (λ n. record { creator = n.0; serial = n.1 }) (numbers_of (codes "q") text)
 
--- the group that a text names: the number behind the letter, if it is in range and the text is that of the group
+-- the group that a text names: the number behind the letter, if it is in range and the text is that of the
+-- group
 unfoldable pub group_of : List ℕ → Option GroupId
 group_of text =
     let number = digits_value 10 (drop 1 text) in
-    if nat_le 1 number && nat_le number 4294967295 && bytes_eq text (codes "g" ++ decimal number) then Some (record { 0 = number }) else None
+    if nat_le 1 number
+    && nat_le number 4294967295
+    && bytes_eq text (codes "g" ++ decimal number)
+    then Some (record { 0 = number }) else None
+
+-- whether two ids are of one context
+abbrev pub same_context : ContextId → ContextId → Bool
+same_context x y = x.creator == y.creator && x.serial == y.serial

@@ -1,2 +1,4 @@
+pub mod Gives
 pub mod Ids
 pub mod ProcSet
+pub mod Sharing

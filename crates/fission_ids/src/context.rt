@@ -7,7 +7,8 @@ use crate::numbers::{join_numbers, print_numbers, read_numbers, split_number};
 use crate::text::Text;
 use std::alloc::Global;
 
-/// A browsing context. The creator is 0 for the parent and p + 1 for process p, so 0 to 16, and the serial counts from 1.
+/// A browsing context. The creator is 0 for the parent and p + 1 for process p, so 0 to 16.
+/// The serial counts from 1.
 #[derive(Clone, Copy, Debug, PartialEq, Eq, PartialOrd, Ord)]
 pub struct ContextId {
     pub creator: u8,
@@ -21,9 +22,11 @@ impl Duplicate for ContextId {
 }
 
 impl ContextId {
-    /// The id in range with this text: `c`, the creator, `.` and the serial. None exactly where no id in range has it.
+    /// The id in range with this text: `c`, the creator, `.` and the serial. None
+    /// exactly where no id in range has it.
     pub fn parse(text: &str) -> Option<ContextId>
-        ensures cases { MatchOption result ((i : ContextId) → IsContextId i → text.now ≢ context_text i) (λ i. IsContextId i × (text.now ≡ context_text i)) }
+        ensures cases { MatchOption result ((i : ContextId) → IsContextId i → text.now ≢ context_text i)
+            (λ i. IsContextId i × (text.now ≡ context_text i)) }
         ensures inverse { (i : ContextId) → IsContextId i → text.now ≡ context_text i → result ≡ Some i }
         ensures value { result ≡ context_of text.now }
     {
@@ -47,7 +50,8 @@ impl ContextId {
 
     /// The id in range with this number. None exactly where no id in range has it.
     pub fn of_number(n: u64) -> Option<ContextId>
-        ensures cases { MatchOption result ((i : ContextId) → IsContextId i → context_number i ≢ n) (λ i. IsContextId i × (context_number i ≡ n)) }
+        ensures cases { MatchOption result ((i : ContextId) → IsContextId i → context_number i ≢ n)
+            (λ i. IsContextId i × (context_number i ≡ n)) }
         ensures inverse { (i : ContextId) → IsContextId i → context_number i ≡ n → result ≡ Some i }
     {
         let (creator, serial) = split_number(n)?;

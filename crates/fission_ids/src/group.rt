@@ -20,7 +20,8 @@ impl Duplicate for GroupId {
 impl GroupId {
     /// The group in range with this text: `g` and its number. None exactly where no number in range gives it.
     pub fn parse(text: &str) -> Option<GroupId>
-        ensures cases { MatchOption result ((i : GroupId) → IsGroupId i → text.now ≢ group_text i) (λ i. IsGroupId i × (text.now ≡ group_text i)) }
+        ensures cases { MatchOption result ((i : GroupId) → IsGroupId i → text.now ≢ group_text i)
+            (λ i. IsGroupId i × (text.now ≡ group_text i)) }
         ensures inverse { (i : GroupId) → IsGroupId i → text.now ≡ group_text i → result ≡ Some i }
         ensures value { result ≡ group_of text.now }
     {
@@ -31,6 +32,6 @@ impl GroupId {
     pub fn print(&self, alloc: Global) -> Result<Text, OutOfMemory>
         ensures { IfOk result (λ t. t ≡ group_text self.now) }
     {
-        Ok(Text::from_string(format!(in alloc; "g{}", self.0)?))
+        Text::from_string(format!(in alloc; "g{}", self.0)?)
     }
 }

@@ -1,5 +1,6 @@
-ghost use Rattle.std.specs.Prelude.{◌≡◌, ◌≢◌, ℕ, ◌^◌, ◌<◌, ◌≤◌, ◌∷◌, ◌++◌, ◌↔◌, List, IfOk, IfSome, IsSomeAnd, IsTrue, MatchOption, Some, codes, decimal};
-ghost use Rattle.fission_ids.specs.Ids.{AreInRange, IsPlain, dotted, joined};
+ghost use Rattle.std.specs.Prelude.{◌≡◌, ◌≢◌, ℕ, ◌^◌, ◌<◌, ◌≤◌, ◌∷◌, ◌++◌, ◌↔◌, List, IfOk, IfSome};
+ghost use Rattle.std.specs.Prelude.{IsSomeAnd, IsTrue, MatchOption, Some, codes, decimal};
+ghost use Rattle.fission_ids.specs.Ids.{AreInRange, IsPlain, dotted, id_number};
 
 use crate::memory::OutOfMemory;
 use crate::text::Text;
@@ -31,7 +32,8 @@ fn read_number(text: &str) -> Option<u32>
 
 // The number of a creator.
 fn read_creator(text: &str) -> Option<u8>
-    ensures { MatchOption result ((n : ℕ) → n ≤ 16 → text.now ≢ decimal n) (λ n. (n ≤ 16) × (text.now ≡ decimal n)) }
+    ensures { MatchOption result ((n : ℕ) → n ≤ 16 → text.now ≢ decimal n)
+        (λ n. (n ≤ 16) × (text.now ≡ decimal n)) }
 {
     let creator = read_number(text)?;
     if creator <= LAST_CREATOR {
@@ -43,7 +45,8 @@ fn read_creator(text: &str) -> Option<u8>
 
 // A serial, or the number of a group: they count from 1.
 pub(crate) fn read_serial(text: &str) -> Option<u32>
-    ensures { MatchOption result ((n : ℕ) → 1 ≤ n → n ≤ 4294967295 → text.now ≢ decimal n) (λ n. (1 ≤ n) × (text.now ≡ decimal n)) }
+    ensures { MatchOption result ((n : ℕ) → 1 ≤ n → n ≤ 4294967295 → text.now ≢ decimal n)
+        (λ n. (1 ≤ n) × (text.now ≡ decimal n)) }
 {
     let serial = read_number(text)?;
     if serial == 0 { None } else { Some(serial) }
@@ -52,7 +55,8 @@ pub(crate) fn read_serial(text: &str) -> Option<u32>
 // What stands behind this letter.
 pub(crate) fn after_letter(letter: char, text: &str) -> Option<&str>
     requires { letter < 128 }
-    ensures { MatchOption result ((rest : List ℕ) → text.now ≢ letter ∷ rest) (λ rest. text.now ≡ letter ∷ rest.now) }
+    ensures { MatchOption result ((rest : List ℕ) → text.now ≢ letter ∷ rest)
+        (λ rest. text.now ≡ letter ∷ rest.now) }
 {
     text.strip_prefix(letter)
 }
@@ -60,7 +64,8 @@ pub(crate) fn after_letter(letter: char, text: &str) -> Option<&str>
 // What stands before the first dot, and what stands behind it.
 fn split_at_dot(text: &str) -> Option<(&str, &str)>
     ensures found { IfSome result (λ parts. text.now ≡ parts.0.now ++ (codes "." ++ parts.1.now)) }
-    ensures every { (creator serial : ℕ) → creator < 2 ^ 32 → text.now ≡ dotted creator serial → IsSomeAnd result (λ parts. (parts.0.now ≡ decimal creator) × (parts.1.now ≡ decimal serial)) }
+    ensures every { (creator serial : ℕ) → creator < 2 ^ 32 → text.now ≡ dotted creator serial →
+        IsSomeAnd result (λ parts. (parts.0.now ≡ decimal creator) × (parts.1.now ≡ decimal serial)) }
 {
     text.split_once('.')
 }
@@ -69,7 +74,8 @@ fn split_at_dot(text: &str) -> Option<(&str, &str)>
 pub(crate) fn read_numbers(letter: char, text: &str) -> Option<(u8, u32)>
     requires { letter < 128 }
     ensures found { IfSome result (λ n. AreInRange n.0 n.1 × (text.now ≡ letter ∷ dotted n.0 n.1)) }
-    ensures every { (creator serial : ℕ) → AreInRange creator serial → text.now ≡ letter ∷ dotted creator serial → result ≡ Some (creator, serial) }
+    ensures every { (creator serial : ℕ) → AreInRange creator serial →
+        text.now ≡ letter ∷ dotted creator serial → result ≡ Some (creator, serial) }
 {
     let (creator, serial) = split_at_dot(after_letter(letter, text)?)?;
     Some((read_creator(creator)?, read_serial(serial)?))
@@ -85,19 +91,20 @@ pub(crate) fn print_numbers(
     requires { letter < 128 }
     ensures { IfOk result (λ t. t ≡ letter ∷ dotted creator serial) }
 {
-    Ok(Text::from_string(format!(in alloc; "{letter}{creator}.{serial}")?))
+    Text::from_string(format!(in alloc; "{letter}{creator}.{serial}")?)
 }
 
 pub(crate) fn join_numbers(creator: u8, serial: u32) -> u64
-    ensures { result ≡ joined creator serial }
+    ensures { result ≡ id_number creator serial }
 {
     u64::from(creator) * SERIALS + u64::from(serial)
 }
 
 // The creator and the serial that are joined in a number.
 pub(crate) fn split_number(n: u64) -> Option<(u8, u32)>
-    ensures found { IfSome result (λ p. AreInRange p.0 p.1 × (joined p.0 p.1 ≡ n)) }
-    ensures every { (creator serial : ℕ) → AreInRange creator serial → joined creator serial ≡ n → result ≡ Some (creator, serial) }
+    ensures found { IfSome result (λ p. AreInRange p.0 p.1 × (id_number p.0 p.1 ≡ n)) }
+    ensures every { (creator serial : ℕ) → AreInRange creator serial → id_number creator serial ≡ n →
+        result ≡ Some (creator, serial) }
 {
     let (creator, serial) = (n / SERIALS, n % SERIALS);
     if creator > u64::from(LAST_CREATOR) || serial == 0 {

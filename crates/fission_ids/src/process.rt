@@ -1,5 +1,5 @@
 ghost use Rattle.std.specs.Prelude.{◌≡◌, ◌<◌};
-ghost use Rattle.fission_ids.specs.ProcSet.{AddsOne, RemovesOne, has, with};
+ghost use Rattle.fission_ids.specs.ProcSet.{AddsOne, RemovesOne, IsEmpty, has, with, without};
 
 use crate::memory::{Duplicate, OutOfMemory};
 
@@ -41,8 +41,14 @@ impl ProcSet {
     /// The set without p.
     pub fn without(self, p: ProcId) -> ProcSet
         requires { p.0 < 16 }
-        ensures { RemovesOne self result p.0 }
+        ensures value { result ≡ without self p.0 }
+        ensures members { RemovesOne self result p.0 }
     {
         ProcSet(self.0 & !(1 << p.0))
     }
 }
+
+// The empty set has no process.
+fn empty_is_empty()
+    ensures { IsEmpty ProcSet.EMPTY }
+{}

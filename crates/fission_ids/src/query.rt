@@ -7,7 +7,8 @@ use crate::numbers::{print_numbers, read_numbers};
 use crate::text::Text;
 use std::alloc::Global;
 
-/// A query. The creator is 0 for the parent and p + 1 for process p, so 0 to 16, and the serial counts from 1.
+/// A query. The creator is 0 for the parent and p + 1 for process p, so 0 to 16.
+/// The serial counts from 1.
 #[derive(Clone, Copy, Debug, PartialEq, Eq, PartialOrd, Ord)]
 pub struct QueryId {
     pub creator: u8,
@@ -21,9 +22,11 @@ impl Duplicate for QueryId {
 }
 
 impl QueryId {
-    /// The id in range with this text: `q`, the creator, `.` and the serial. None exactly where no id in range has it.
+    /// The id in range with this text: `q`, the creator, `.` and the serial. None
+    /// exactly where no id in range has it.
     pub fn parse(text: &str) -> Option<QueryId>
-        ensures cases { MatchOption result ((i : QueryId) → IsQueryId i → text.now ≢ query_text i) (λ i. IsQueryId i × (text.now ≡ query_text i)) }
+        ensures cases { MatchOption result ((i : QueryId) → IsQueryId i → text.now ≢ query_text i)
+            (λ i. IsQueryId i × (text.now ≡ query_text i)) }
         ensures inverse { (i : QueryId) → IsQueryId i → text.now ≡ query_text i → result ≡ Some i }
         ensures value { result ≡ query_of text.now }
     {

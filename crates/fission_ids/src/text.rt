@@ -5,29 +5,30 @@ ghost use Rattle.std.specs.Cmp.Lexicographic.{nat_list_eq_equiv};
 use crate::memory::{Duplicate, OutOfMemory};
 use std::alloc::Global;
 use std::marker::Model;
+use std::sync::ArcStr;
 
-/// A text that doesn't change, seen as its bytes of UTF-8.
+/// A text that doesn't change, seen as its bytes of UTF-8. Its copies share it.
 #[derive(Debug, Drop)]
 pub struct Text {
-    text: String,
+    // None is the text of no characters, which takes no memory.
+    text: Option<ArcStr>,
 }
 
 impl Model for Text {
-    ghost use Rattle.std.specs.Prelude.{List, ℕ, string_bytes};
+    ghost use Rattle.std.specs.Prelude.{List, ℕ};
+    ghost use Rattle.fission_ids.specs.Sharing.{shared_bytes};
 
     ghost Value = { List ℕ };
 
-    ghost view = { λ t. string_bytes t.text };
+    ghost view = { λ t. shared_bytes t.text };
 }
 
 impl Text {
     /// The text of no characters. It takes no memory.
-    pub fn empty(alloc: Global) -> Text
+    pub fn empty() -> Text
         ensures { result ≡ [] }
     {
-        Text {
-            text: String::new(alloc),
-        }
+        Text { text: None }
     }
 
     /// A text of these characters.
@@ -35,28 +36,38 @@ impl Text {
         ensures { IfOk result (λ t. t ≡ s.now) }
     {
         Ok(Text {
-            text: String::from_str(alloc, s)?,
+            text: Some(ArcStr::from_str(alloc, s)?),
         })
     }
 
     // The text in a string.
-    pub(crate) fn from_string(text: String) -> Text
-        ensures { result ≡ string_bytes text }
+    pub(crate) fn from_string(text: String) -> Result<Text, OutOfMemory>
+        ensures { IfOk result (λ t. t ≡ string_bytes text) }
     {
-        Text { text }
+        Ok(Text {
+            text: Some(ArcStr::from_string(text)?),
+        })
     }
 
     /// The characters.
     pub fn as_str(&self) -> &str
         ensures { result.now ≡ self.now }
     {
-        self.text.as_str()
+        match &self.text {
+            None => "",
+            Some(text) => text.as_str(),
+        }
     }
 }
 
 impl Duplicate for Text {
     fn copy(&self) -> Result<Text, OutOfMemory> {
-        Text::of(*self.text.allocator(), self.text.as_str())
+        match &self.text {
+            None => Ok(Text { text: None }),
+            Some(text) => Ok(Text {
+                text: Some(text.clone()?),
+            }),
+        }
     }
 }
 

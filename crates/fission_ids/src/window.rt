@@ -7,7 +7,8 @@ use crate::numbers::{join_numbers, print_numbers, read_numbers, split_number};
 use crate::text::Text;
 use std::alloc::Global;
 
-/// A window global. The creator is 0 for the parent and p + 1 for process p, so 0 to 16, and the serial counts from 1.
+/// A window global. The creator is 0 for the parent and p + 1 for process p, so 0 to 16.
+/// The serial counts from 1.
 #[derive(Clone, Copy, Debug, PartialEq, Eq, PartialOrd, Ord)]
 pub struct WindowId {
     pub creator: u8,
@@ -21,9 +22,11 @@ impl Duplicate for WindowId {
 }
 
 impl WindowId {
-    /// The id in range with this text: `w`, the creator, `.` and the serial. None exactly where no id in range has it.
+    /// The id in range with this text: `w`, the creator, `.` and the serial. None
+    /// exactly where no id in range has it.
     pub fn parse(text: &str) -> Option<WindowId>
-        ensures cases { MatchOption result ((i : WindowId) → IsWindowId i → text.now ≢ window_text i) (λ i. IsWindowId i × (text.now ≡ window_text i)) }
+        ensures cases { MatchOption result ((i : WindowId) → IsWindowId i → text.now ≢ window_text i)
+            (λ i. IsWindowId i × (text.now ≡ window_text i)) }
         ensures inverse { (i : WindowId) → IsWindowId i → text.now ≡ window_text i → result ≡ Some i }
         ensures value { result ≡ window_of text.now }
     {
@@ -47,7 +50,8 @@ impl WindowId {
 
     /// The id in range with this number. None exactly where no id in range has it.
     pub fn of_number(n: u64) -> Option<WindowId>
-        ensures cases { MatchOption result ((i : WindowId) → IsWindowId i → window_number i ≢ n) (λ i. IsWindowId i × (window_number i ≡ n)) }
+        ensures cases { MatchOption result ((i : WindowId) → IsWindowId i → window_number i ≢ n)
+            (λ i. IsWindowId i × (window_number i ≡ n)) }
         ensures inverse { (i : WindowId) → IsWindowId i → window_number i ≡ n → result ≡ Some i }
     {
         let (creator, serial) = split_number(n)?;

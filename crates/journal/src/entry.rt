@@ -24,7 +24,9 @@ impl Duplicate for Step {
 /// A step, and what it came to.
 #[derive(Debug, Drop)]
 pub struct Entry {
+    /// What was done.
     pub step: Step,
+    /// What it came to.
     pub answer: Answer,
 }
 
@@ -36,3 +38,6 @@ impl Duplicate for Entry {
         })
     }
 }
+
+// A long run has many entries, most of them deliveries.
+const _: () = prove!(size_of::<Entry>() <= 160);

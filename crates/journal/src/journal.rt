@@ -2,11 +2,12 @@ ghost use Rattle.std.specs.Prelude.{◌≡◌, [], ◌∷◌, length, reverse, s
 ghost use Rattle.std.specs.Option.{option_copied};
 
 use crate::entry::Entry;
-use fission_ids::{OutOfMemory, Seq};
+use fission_ids::{Duplicate, OutOfMemory, Seq};
 use std::alloc::Global;
 use std::marker::Model;
 
-/// The entries of a run, seen as a list with the newest first: so each question to a journal looks back from its end.
+/// The entries of a run, seen as a list with the newest first: so each question to a journal looks back from
+/// its end.
 #[derive(Debug, Drop)]
 pub struct Journal {
     entries: Seq<Entry>,
@@ -52,5 +53,13 @@ impl Journal {
         ensures len { length result.now ≡ length self.now }
     {
         self.entries.as_slice()
+    }
+}
+
+impl Duplicate for Journal {
+    fn copy(&self) -> Result<Journal, OutOfMemory> {
+        Ok(Journal {
+            entries: self.entries.copy()?,
+        })
     }
 }

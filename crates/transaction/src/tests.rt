@@ -15,7 +15,7 @@ fn applies_what_it_modifies(rt: HostRuntime) -> Result<(), Fail> {
     let change = change.copy()?;
     assert!(rt; change.value(Field::Muted) == Some(&Value::Flag(true)));
     assert!(rt; change.value(Field::Loading).is_none());
-    let mut fields = Fields::initial(rt.alloc());
+    let mut fields = Fields::initial();
     fields.put(Field::FullZoom, Value::Number(50));
     fields.put(Field::DisplayMode, Value::Number(2));
     change.apply(&mut fields);

@@ -1,5 +1,7 @@
 use crate::address::copy_of;
-use fission_ids::{ContextId, Duplicate, GroupId, OutOfMemory, ProcId, QueryId, Text, WindowId};
+use fission_ids::{
+    ContextId, Duplicate, GroupId, Kept, OutOfMemory, ProcId, QueryId, Text, WindowId,
+};
 use transaction::Transaction;
 use url::Url;
 
@@ -9,7 +11,7 @@ pub enum Action {
     /// It writes fields of a context.
     Set {
         context: ContextId,
-        fields: Transaction,
+        fields: Kept<Transaction>,
     },
     /// It makes a frame in a context.
     Frame {
@@ -99,7 +101,7 @@ pub enum ParentAction {
     /// It writes fields of a context.
     Set {
         context: ContextId,
-        fields: Transaction,
+        fields: Kept<Transaction>,
     },
     /// It opens a tab that a process owns, in a new group or in one that is there.
     Tab {

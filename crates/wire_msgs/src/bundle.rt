@@ -1,5 +1,5 @@
 use crate::part::{DownPart, UpPart};
-use fission_ids::{Duplicate, Epoch, OutOfMemory, Seq};
+use fission_ids::{Duplicate, Epoch, OutOfMemory, Seq, Shared};
 
 /// What a process sends the parent in one step.
 #[derive(Debug, Drop)]
@@ -8,6 +8,7 @@ pub struct UpBundle {
     pub epoch: Epoch,
     /// How many bundles the process had taken.
     pub seen: u64,
+    /// Its parts, in the order of their kinds.
     pub parts: Seq<UpPart>,
 }
 
@@ -26,7 +27,8 @@ impl Duplicate for UpBundle {
 pub struct DownBundle {
     /// The epoch that the parent heard last of the process.
     pub epoch: Epoch,
-    pub parts: Seq<DownPart>,
+    /// Its parts, which all that it is sent to share.
+    pub parts: Shared<DownPart>,
 }
 
 impl Duplicate for DownBundle {

@@ -1,5 +1,6 @@
-//! What the parent and the processes tell each other and are told: the configuration of a run, actions, the parts of
-//! bundles, answers. Plain values with public members, and an equal copy of each. Nothing here does anything with them.
+//! What the parent and the processes tell each other and are told: the configuration of a run, actions, the
+//! parts of bundles, answers. Plain values with public members, and an equal copy of each. Nothing here does
+//! anything with them.
 #![tactic(auto)]
 
 mod action;
@@ -35,9 +36,16 @@ fn types_cross() {
     crosses::<DownBundle>();
     crosses::<EndCause>();
     crosses::<Config>();
+    crosses::<StartTab>();
+    crosses::<Mark>();
+    crosses::<FieldMark>();
+    crosses::<FieldNote>();
+    crosses::<LoadMark>();
+    crosses::<AskMark>();
     crosses::<PartNote>();
     crosses::<UpPart>();
     crosses::<DownPart>();
     crosses::<Known>();
+    crosses::<Counted>();
     crosses::<Refusal>();
 }

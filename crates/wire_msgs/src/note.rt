@@ -59,7 +59,7 @@ pub enum LoadMark {
     Target(ProcId),
     /// The process opened this window.
     Opened(WindowId),
-    /// The navigation was refused, for the cause of this number.
+    /// The navigation was refused, by the number of the refusal, from 1 to 12.
     Refused(u8),
     /// It changed nothing.
     Ignored,

@@ -1,7 +1,7 @@
 use crate::address::copy_of;
 use field_table::Fields;
 use fission_ids::{
-    ContextId, Duplicate, GroupId, OutOfMemory, Outcome, QueryId, Seq, Text, WindowId,
+    ContextId, Duplicate, GroupId, Kept, OutOfMemory, Outcome, QueryId, Seq, Text, WindowId,
 };
 use transaction::Transaction;
 use url::Url;
@@ -35,7 +35,7 @@ pub enum UpPart {
     /// It wrote fields of a context.
     Commit {
         context: ContextId,
-        change: Transaction,
+        change: Kept<Transaction>,
     },
     /// It asks for a context to be navigated.
     NavigateRequest {
@@ -123,13 +123,16 @@ impl Duplicate for UpPart {
 /// A context as a new subscriber gets it.
 #[derive(Debug, Drop)]
 pub struct Known {
+    /// The context.
     pub context: ContextId,
+    /// The group that it's in.
     pub group: GroupId,
-    /// None for a top-level context.
+    /// The context that it's a frame of, or None for a top-level one.
     pub parent: Option<ContextId>,
     /// Whether the destination owns it.
     pub owned: bool,
-    pub fields: Fields,
+    /// What its fields hold.
+    pub fields: Kept<Fields>,
 }
 
 impl Duplicate for Known {
@@ -159,7 +162,7 @@ pub enum DownPart {
     /// Fields of a context have new values.
     Commit {
         context: ContextId,
-        change: Transaction,
+        change: Kept<Transaction>,
     },
     /// A context is gone, with all below it.
     Discard {

@@ -1,9 +1,10 @@
-use Rattle.std.proofs.Common.{◌≡◌, ◌<◌, ℕ, length, arith, Option, Some, None, get_or, set, sym, ap, ◌∙◌}
-use Rattle.std.proofs.lemmas.List.{get_or_read}
+use Rattle.std.proofs.Common.{◌≡◌, ◌<◌, ℕ, length, arith, Option, Some, None, get_or, set, take, sym, ap, ◌∙◌}
+use Rattle.std.proofs.lemmas.List.{get_or_read, take_all}
 use Rattle.field_table.specs.Table.{Table}
 use Rattle.field_table.specs.declared.value.Value.{Value}
 use Rattle.field_table.proofs.Tables.{number-at}
-use Rattle.transaction.proofs.Merging.{put_at, merged_more, still_left, is_of-put}
+use Rattle.transaction.specs.Transaction.{Changes, merged}
+use Rattle.transaction.proofs.Merging.{value_in-merged, put_at, merged_more, still_left, is_of-put}
 use Rattle.transaction.proofs.transaction.put_in.Goals as goal
 use Rattle.transaction.proofs.transaction.put_in.Goals.{in-Some, in_default}
 
@@ -28,8 +29,13 @@ loop-f-preserved c =
     λ new put. merged_more i n _ c.loop-f.values _ fields new at c.loop-f.invariant.rest c.loop-f.invariant.done put in
     record {
       done = elim c.match-take.branch [
-        | in-Some w ↦ done _ (put_is (Some w.in-Some.v) _ w.in-Some.is (w.fields-is ∙ w.put.ensures ∙ ap (λ (k : ℕ). set fields k w.in-Some.v) (sym c.number.ensures)))
+        | in-Some w ↦ done _ (put_is (Some w.in-Some.v) _ w.in-Some.is (w.fields-is ∙ w.put.ensures.whole ∙ ap (λ (k : ℕ). set fields k w.in-Some.v) (sym c.number.ensures)))
         | in_default w ↦ done _ (put_is None _ w.in_default.is w.fields-is)
       ];
       rest = still_left i n _ c.loop-f.values _ at c.loop-f.invariant.rest;
     }
+
+pub returns-clause-values : goal.returns-clause-values
+returns-clause-values c f =
+    let all : take c.loop-f.f-index c.args.values.now ≡ c.args.values.now = take_all c.loop-f.f-index c.args.values.now (omega arith) in
+    value_in-merged _ _ _ f (c.loop-f.invariant.done ∙ ap (λ (t : Changes). merged t c.args.fields.now) all) c.requires.table

@@ -22,4 +22,5 @@ sink_faults sink = sink.faults
 
 -- at Ok(n) the first n bytes went on, and at Err a front of the bytes
 abbrev pub GoesOn : {E : Type 0} → Option (List ℕ) → Option (List ℕ) → Result ℕ E → List ℕ → Type 0
-GoesOn old new result bytes = MatchResult result (λ n. Appends old new (take n bytes)) (λ _. Begins old new bytes)
+GoesOn old new result bytes =
+    MatchResult result (λ n. Appends old new (take n bytes)) (λ _. Begins old new bytes)

@@ -1,6 +1,5 @@
-ghost use Rattle.std.specs.Prelude.{◌≡◌, ◌≤◌, ◌<◌, ◌^◌, is_some};
-ghost use Rattle.edge.specs.Causes.{Rose};
-ghost use Rattle.edge.specs.Input.{HasRead};
+ghost use Rattle.std.specs.Prelude.{◌≡◌, ◌+◌, ◌≤◌, ◌<◌, ◌^◌, is_some};
+ghost use Rattle.edge.specs.Input.{HasCounted, HasRead, ReadAtMost};
 
 use crate::failed::Failed as Fault;
 use crate::source::Source;
@@ -22,11 +21,13 @@ pub enum Input {
 // The most bytes that one read asks for.
 const PIECE: usize = 4096;
 
-/// Reads a source to its end, and no byte past `limit + 1`.
+/// Reads a source to its end, and at most `limit + 1` bytes of it. The answer is `Failed` where a
+/// read failed, and no read failed where it is another.
 pub fn read_all<S: Source>(alloc: Global, source: &mut S, limit: u64) -> Input
     requires { limit < 2 ^ 32 }
     ensures read { HasRead (S.left source.old) (S.left source.new) limit result }
-    ensures failed { result ≡ Input.Failed → Rose (S.faults source.old) (S.faults source.new) }
+    ensures counted { HasCounted (S.faults source.old) (S.faults source.new) result }
+    ensures within { ReadAtMost (S.left source.old) (S.left source.new) (limit + 1) }
     ensures later { S.faults source.old ≤ S.faults source.new }
     ensures tells { is_some (S.left source.new) ≡ is_some (S.left source.old) }
 {

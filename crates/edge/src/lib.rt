@@ -1,9 +1,10 @@
 //! The edge to the outside: where bytes come from, where they go, and what stands round each turn
 //! of a node.
 //!
-//! It promises upward what each read and write moved, and that a fault is answered only where the
-//! count of faults of the source or the sink rose. It never takes bytes past a limit, drops bytes
-//! that it took, or makes up a fault.
+//! It promises upward what each read and write moved, that the count of faults of the source or the
+//! sink rose where a fault is answered, and that it stands still where none is. It never reads more
+//! than one byte past a limit, drops bytes that it took, makes up a fault, passes over one, or tells
+//! one as something else.
 #![tactic(auto)]
 
 mod calls;

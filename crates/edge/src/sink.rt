@@ -15,7 +15,8 @@ pub trait Sink {
     ghost faults: { Self → ℕ };
 
     /// Takes the first bytes of a piece, and answers how many: at least one, if the piece is not
-    /// empty. `Failed` takes none.
+    /// empty. `Failed` is a fault that was counted, and takes none, where the sink tells what was
+    /// written. Any other answer counts no fault.
     fn write(&mut self, bytes: &[u8]) -> Result<usize, Failed>
         ensures bound { WritesAtMost result bytes.now }
         ensures some { IfOk result (λ n. 0 < length bytes.now → 0 < n) }

@@ -16,7 +16,8 @@ pub trait Source {
 
     /// Moves the first bytes that are left into the front of `buf`, and answers how many.
     ///
-    /// 0 for a buffer that is not empty is the end of input. `Failed` leaves what is left as it was.
+    /// 0 for a buffer that is not empty is the end of input. `Failed` is a fault that was counted, and
+    /// leaves what is left, where the source tells it, as it was. Any other answer counts no fault.
     fn read(&mut self, buf: &mut [u8]) -> Result<usize, Failed>
         ensures bound { ReadsAtMost result buf.new }
         ensures bytes { ReadConsumes (left self.old) (left self.new) result buf.new }

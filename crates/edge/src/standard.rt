@@ -12,7 +12,8 @@ use std::io::{ErrorKind, Read, Write};
 // The most calls of one kind for one answer, where each is interrupted.
 const MOST_CALLS: u32 = 1000;
 
-/// A source over a reader of std. It tells nothing of the content.
+/// A source over a reader of std. It does not tell what is left. A read moves the bytes that the
+/// reader gives, and each `Failed` is counted.
 #[derive(Drop)]
 pub struct StdSource<R> {
     inner: R,
@@ -20,6 +21,7 @@ pub struct StdSource<R> {
 }
 
 impl<R: Read> StdSource<R> {
+    /// A source with no fault yet.
     pub fn new(inner: R) -> StdSource<R>
         ensures reader { reader_of result ≡ inner }
         ensures faults { source_faults result ≡ 0 }
@@ -68,10 +70,9 @@ fn read_some<R: Read>(inner: &mut R, buf: &mut [u8]) -> Result<usize, Failed>
     Err(Failed)
 }
 
-/// A sink over a writer of std. It tells nothing of the content.
-///
-/// Each piece is flushed before it is answered for, so that nothing waits in a buffer when the
-/// program ends. Where that fails, some of the piece may have been written.
+/// A sink over a writer of std. It does not tell what was written. A write that answers n passes the
+/// first n bytes of the piece on to the writer, one that fails a front of the piece, which may be
+/// all of it or nothing, and each `Failed` is counted.
 #[derive(Drop)]
 pub struct StdSink<W> {
     inner: W,
@@ -79,6 +80,7 @@ pub struct StdSink<W> {
 }
 
 impl<W: Write> StdSink<W> {
+    /// A sink with no fault yet.
     pub fn new(inner: W) -> StdSink<W>
         ensures writer { writer_of result ≡ inner }
         ensures faults { sink_faults result ≡ 0 }
@@ -121,6 +123,7 @@ fn write_some<W: Write>(inner: &mut W, bytes: &[u8]) -> Result<usize, Failed>
         match inner.write(bytes) {
             Ok(0) if !bytes.is_empty() => return Err(Failed),
             Ok(count) => {
+                // A writer may keep the piece back, and then a fault shows only here.
                 flush(inner)?;
                 return Ok(count);
             }

@@ -24,6 +24,7 @@ impl Model for SureSource {
 }
 
 impl SureSource {
+    /// A source that has these bytes left.
     pub fn new(bytes: Vec<u8>) -> SureSource
         ensures { result ≡ bytes.items }
     {
@@ -53,6 +54,7 @@ impl Source for SureSource {
 pub struct SureSink;
 
 impl SureSink {
+    /// The sink.
     pub fn new() -> SureSink
         ensures { result ≡ record {} }
     {

@@ -1,41 +1,7 @@
 use super::*;
-use std::alloc::{AllocError, Global};
 use std::io;
 use std::io::{ErrorKind, Read, Write};
 use std::test::Fail;
-
-#[test]
-fn a_source_in_memory_fails_at_listed_calls(rt: HostRuntime) -> Result<(), Fail> {
-    let bytes = b"hello".to_vec(rt.alloc())?;
-    let mut source = MemSource::new(bytes, [2].to_vec(rt.alloc())?);
-    let mut buffer = [0; 2];
-    for (want, front) in [
-        (Ok(2), b"he"),
-        (Err(Failed), b"he"),
-        (Ok(2), b"ll"),
-        (Ok(1), b"ol"),
-        (Ok(0), b"ol"),
-    ] {
-        assert_eq!(rt; source.read(&mut buffer), want);
-        assert_eq!(rt; buffer, *front);
-    }
-    Ok(())
-}
-
-#[test]
-fn a_sink_in_memory_fails_at_listed_calls(rt: HostRuntime) -> Result<(), Fail> {
-    let mut sink = MemSink::new(rt.alloc(), [1, 3].to_vec(rt.alloc())?);
-    for (want, held) in [
-        (Err(Failed), b"".as_slice()),
-        (Ok(2), b"ab"),
-        (Err(Failed), b"ab"),
-        (Ok(2), b"abab"),
-    ] {
-        assert_eq!(rt; sink.write(b"ab"), want);
-        assert_eq!(rt; sink.bytes(), held);
-    }
-    Ok(())
-}
 
 fn label(input: &Input) -> &'static str {
     match input {
@@ -48,49 +14,26 @@ fn label(input: &Input) -> &'static str {
 
 #[test]
 fn reads_to_the_end(rt: HostRuntime) -> Result<(), Fail> {
-    for (fails, limit, want) in [
-        (0, 3, "whole"),
-        (0, 4_294_967_295, "whole"),
-        (0, 2, "too large"),
-        (0, 0, "too large"),
-        (1, 3, "failed"),
-        (2, 3, "failed"),
-        (3, 3, "whole"),
-    ] {
+    for (fails, limit, want) in [(0, 3, "whole"), (0, 2, "too large"), (2, 3, "failed")] {
         let bytes = b"abc".to_vec(rt.alloc())?;
         let mut source = MemSource::new(bytes, [fails].to_vec(rt.alloc())?);
         let input = read_all(rt.alloc(), &mut source, limit);
-        assert_eq!(rt; label(&input), want, "call {fails} failing, limit {limit}");
-        if let Input::Whole(bytes) = input {
-            assert_eq!(rt; bytes.as_slice(), b"abc".as_slice());
-        }
-    }
-    Ok(())
-}
-
-// Its length is hidden from the proof of a test.
-fn sevens(alloc: Global, count: usize) -> Result<Vec<u8>, AllocError> {
-    vec![in alloc; 7; count]
-}
-
-#[test]
-fn reads_a_large_input(rt: HostRuntime) -> Result<(), Fail> {
-    for (limit, want) in [(4_194_304, "whole"), (4_194_303, "too large")] {
-        let mut source = SureSource::new(sevens(rt.alloc(), 4_194_304)?);
-        let input = read_all(rt.alloc(), &mut source, limit);
         assert_eq!(rt; label(&input), want);
     }
+    let mut source = SureSource::new(b"abc".to_vec(rt.alloc())?);
+    let input = read_all(rt.alloc(), &mut source, 3);
+    assert_eq!(rt; label(&input), "whole");
     Ok(())
 }
 
 #[test]
-fn writes_all_or_a_front(rt: HostRuntime) -> Result<(), Fail> {
-    for (fails, want, held) in [(2, Ok(()), b"hello".as_slice()), (1, Err(Failed), b"")] {
-        let mut sink = MemSink::new(rt.alloc(), [fails].to_vec(rt.alloc())?);
-        assert_eq!(rt; write_all(&mut sink, b"hello"), want);
-        assert_eq!(rt; sink.bytes(), held);
-    }
+fn writes_all(rt: HostRuntime) -> Result<(), Fail> {
+    let mut sink = MemSink::new(rt.alloc(), [2].to_vec(rt.alloc())?);
+    assert_eq!(rt; write_all(&mut sink, b"hello"), Ok(()));
+    assert_eq!(rt; sink.bytes(), b"hello".as_slice());
     assert_eq!(rt; write_all(&mut SureSink::new(), b"hello"), Ok(()));
+    NoGate.enter(0);
+    NoGate.leave(0);
     Ok(())
 }
 
@@ -99,9 +42,7 @@ fn writes_all_or_a_front(rt: HostRuntime) -> Result<(), Fail> {
 struct Stream {
     interruptions: u64,
     calls: u64,
-    is_full: bool,
     is_stuck: bool,
-    flushed: usize,
     content: Vec<u8>,
 }
 
@@ -110,9 +51,7 @@ impl Stream {
         Stream {
             interruptions,
             calls: 0,
-            is_full: false,
             is_stuck: false,
-            flushed: 0,
             content,
         }
     }
@@ -139,9 +78,6 @@ impl Read for Stream {
 impl Write for Stream {
     fn write(&mut self, buf: &[u8]) -> io::Result<usize> {
         self.call()?;
-        if self.is_full {
-            return Ok(0);
-        }
         let count = buf.len().min(2);
         self.content.extend_from_slice(&buf[..count])?;
         Ok(count)
@@ -151,63 +87,34 @@ impl Write for Stream {
         if self.is_stuck {
             return Err(io::Error::from(ErrorKind::BrokenPipe));
         }
-        self.flushed = self.content.len();
         Ok(())
     }
 }
 
 #[test]
 fn a_std_reader_is_called_again(rt: HostRuntime) -> Result<(), Fail> {
-    for (interruptions, want, calls) in [
-        (1, "whole", 5),
-        (999, "whole", 1003),
-        (1000, "failed", 1000),
-        (u64::MAX, "failed", 1000),
-    ] {
+    for (interruptions, want, calls) in [(999, "whole", 1003), (u64::MAX, "failed", 1000)] {
         let mut stream = Stream::new(interruptions, b"hello".to_vec(rt.alloc())?);
         let input = read_all(rt.alloc(), &mut StdSource::new(&mut stream), 9);
         assert_eq!(rt; label(&input), want, "{interruptions} interruptions");
         assert_eq!(rt; stream.calls, calls);
-        if let Input::Whole(bytes) = input {
-            assert_eq!(rt; bytes.as_slice(), b"hello".as_slice());
-        }
     }
     Ok(())
 }
 
+// The third row's flush fails, so that one piece is written and answered for as a fault.
 #[test]
 fn a_std_writer_is_called_again(rt: HostRuntime) -> Result<(), Fail> {
-    for (interruptions, want, calls, held) in [
-        (1, Ok(()), 4, b"hello".as_slice()),
-        (u64::MAX, Err(Failed), 1000, b""),
+    for (interruptions, is_stuck, want, calls, held) in [
+        (1, false, Ok(()), 4, b"hello".as_slice()),
+        (u64::MAX, false, Err(Failed), 1000, b""),
+        (0, true, Err(Failed), 1, b"he"),
     ] {
         let mut stream = Stream::new(interruptions, Vec::new(rt.alloc()));
+        stream.is_stuck = is_stuck;
         assert_eq!(rt; write_all(&mut StdSink::new(&mut stream), b"hello"), want);
         assert_eq!(rt; stream.calls, calls);
         assert_eq!(rt; stream.content.as_slice(), held);
-        assert_eq!(rt; stream.flushed, held.len());
     }
     Ok(())
-}
-
-#[test]
-fn a_std_writer_that_takes_nothing_failed(rt: HostRuntime) {
-    let mut stream = Stream::new(0, Vec::new(rt.alloc()));
-    stream.is_full = true;
-    let mut sink = StdSink::new(&mut stream);
-    assert_eq!(rt; sink.write(b"a"), Err(Failed));
-    assert_eq!(rt; sink.write(b""), Ok(0));
-}
-
-#[test]
-fn a_std_writer_that_is_not_flushed_failed(rt: HostRuntime) {
-    let mut stream = Stream::new(0, Vec::new(rt.alloc()));
-    stream.is_stuck = true;
-    assert_eq!(rt; StdSink::new(&mut stream).write(b"a"), Err(Failed));
-}
-
-#[test]
-fn no_gate_returns(_rt: HostRuntime) {
-    NoGate.enter(0);
-    NoGate.leave(0);
 }

@@ -6,7 +6,7 @@ use crate::failed::Failed;
 use crate::sink::Sink;
 
 /// Writes all the bytes, piece by piece, and takes no memory. After an error a front of them was
-/// written.
+/// written. No write failed where there is none.
 pub fn write_all<K: Sink>(sink: &mut K, bytes: &[u8]) -> Result<(), Failed>
     ensures bytes { Writes (K.written sink.old) (K.written sink.new) result bytes.now }
     ensures cause { HasCause (K.faults sink.old) (K.faults sink.new) result }

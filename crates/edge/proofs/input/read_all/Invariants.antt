@@ -6,7 +6,7 @@ abbrev pub invariant-pieces : goal.invariant-pieces
 invariant-pieces g l = record {
   within : vec_len l.bytes ≤ l.fn.limit;
   so_far : Consumes (g.S.Source.left l.fn.source) (g.S.Source.left l.source) l.bytes.items;
-  later : g.S.Source.faults l.fn.source ≤ g.S.Source.faults l.source;
+  quiet : g.S.Source.faults l.source ≡ g.S.Source.faults l.fn.source;
   tells : is_some (g.S.Source.left l.source) ≡ is_some (g.S.Source.left l.fn.source);
 }
 

@@ -2,7 +2,7 @@
 use Rattle.std.proofs.Common.{◌≡◌, ℕ, ◌+◌, ◌≤◌, Bool, true, false, Option, None, Some, List, [], ◌∷◌, ◌++◌, drop, refl, ap, sym, subst, ◌∙◌, arith}
 use Rattle.traces.specs.Event.{Bundle}
 use Rattle.traces.specs.Event.Event.{Sends, Takes, Accepts, Reverts, Ignores, Changes, Ends}
-use Rattle.traces.specs.Links.{heard, sent, taken, waiting, ended, last_sent, now}
+use Rattle.traces.specs.Links.{heard, bundles_sent, takes, bundles_waiting, ended, last_sent, now}
 use Rattle.traces.specs.Field.{Content, Trace}
 use Rattle.traces.specs.Field.Content.{Nothing, Gives, Begins, Removes}
 use Rattle.traces.specs.Words.{Start, Stage, after, stage, served, base}
@@ -73,17 +73,17 @@ changed_past k v (_ ∷ h) o e = changed_past k v h o.1 e
 
 -- the change is known, or stands in a waiting bundle, or comes with the context
 abbrev pub Told : {V : Type 0} → Start V → ℕ → V → Trace V → Type 0
-Told start k v h = (k ≤ base h) ⊎ (Stands k (Gives v) (waiting h) ⊎ Reached k (stage start.stage h) (base h) (waiting h))
+Told start k v h = (k ≤ base h) ⊎ (Stands k (Gives v) (bundles_waiting h) ⊎ Reached k (stage start.stage h) (base h) (bundles_waiting h))
 
 told_sent : {V : Type 0} (k b : ℕ) (v : V) (s : Stage) (d : Bundle (Content V)) (h : Trace V) → Flows h → k ≤ d.entry
-    → (k ≤ b) ⊎ (Stands k (Gives v) (waiting h) ⊎ Reached k s b (waiting h))
-    → (k ≤ b) ⊎ (Stands k (Gives v) (drop (taken h) (sent h ++ d ∷ [])) ⊎ Reached k s b (drop (taken h) (sent h ++ d ∷ [])))
+    → (k ≤ b) ⊎ (Stands k (Gives v) (bundles_waiting h) ⊎ Reached k s b (bundles_waiting h))
+    → (k ≤ b) ⊎ (Stands k (Gives v) (drop (takes h) (bundles_sent h ++ d ∷ [])) ⊎ Reached k s b (drop (takes h) (bundles_sent h ++ d ∷ [])))
 told_sent k b v s d h f l (inl i) = inl i
 told_sent k b v s d h f l (inr (inl i)) = inr (inl (stands_sent k (Gives v) d h f i))
-told_sent k b v s d h f l (inr (inr i)) = inr (inr (subst (λ ds. Reached k s b ds) (sym (sent_waits d h f)) (reached_push k s b d (waiting h) l i)))
+told_sent k b v s d h f l (inr (inr i)) = inr (inr (subst (λ ds. Reached k s b ds) (sym (sent_waits d h f)) (reached_push k s b d (bundles_waiting h) l i)))
 
-told_taken : {V : Type 0} (start : Start V) (k : ℕ) (v : V) (d : Bundle (Content V)) (h : Trace V) → Flows h → Ordered h → (first : IsFirst d (waiting h)) → Told start k v h → Told start k v (Takes d ∷ h)
-told_taken {V = V} start k v d h f o first told = go told
+told_taken : {V : Type 0} (start : Start V) (k : ℕ) (v : V) (d : Bundle (Content V)) (h : Trace V) → Flows h → Ordered h → (first : IsFirst d (bundles_waiting h)) → Told start k v h → Told start k v (Takes d ∷ h)
+told_taken {V = V} start k v d h f o first found_after_event = go found_after_event
   where
     up : Rising (base h) (last_sent h) (heard h) (d ∷ first.rest)
     up = subst (λ ds. Rising (base h) (last_sent h) (heard h) ds) first.is (rising h f o)
@@ -100,21 +100,21 @@ told_taken {V = V} start k v d h f o first told = go told
         inr (inr (subst (λ ds. Reached k (after d.content (stage start.stage h)) d.entry ds) (sym (taken_leaves d h first)) r.1))
 
 -- a context that is neither held nor gone is still to come, and its process is alive
-along_coming : {V : Type 0} (start : Start V) (h : Trace V) → Flows h → Fits start h → served start.stage h ≡ Coming → Along false Coming (stage start.stage h) (waiting h)
+along_coming : {V : Type 0} (start : Start V) (h : Trace V) → Flows h → Fits start h → served start.stage h ≡ Coming → Along false Coming (stage start.stage h) (bundles_waiting h)
 along_coming {V = V} start h f t e = go (ended h) refl
   where
-    go : (b : Bool) → ended h ≡ b → Along false Coming (stage start.stage h) (waiting h)
+    go : (b : Bool) → ended h ≡ b → Along false Coming (stage start.stage h) (bundles_waiting h)
     go true i = let gone : served start.stage h ≡ Gone = ended_gone start h f t i in let two : Coming ≡ Gone = sym e ∙ gone in absurd cc
     go false i =
-        subst (λ b. Along b Coming (stage start.stage h) (waiting h)) i (subst (λ s. Along (ended h) s (stage start.stage h) (waiting h)) e (along start h f t))
+        subst (λ b. Along b Coming (stage start.stage h) (bundles_waiting h)) i (subst (λ s. Along (ended h) s (stage start.stage h) (bundles_waiting h)) e (along start h f t))
 
 only_coming : (s : Stage) → (s ≡ Held → ⊥) → (s ≡ Gone → ⊥) → s ≡ Coming
 only_coming Coming a b = refl
 only_coming Held a b = absurd (a refl)
 only_coming Gone a b = absurd (b refl)
 
-reached_now : {V : Type 0} (start : Start V) (k : ℕ) (h : Trace V) → Flows h → Fits start h → served start.stage h ≡ Coming → Reached k (stage start.stage h) (base h) (waiting h)
-reached_now start k h f t e = reached_coming k (stage start.stage h) (base h) (waiting h) (along_coming start h f t e)
+reached_now : {V : Type 0} (start : Start V) (k : ℕ) (h : Trace V) → Flows h → Fits start h → served start.stage h ≡ Coming → Reached k (stage start.stage h) (base h) (bundles_waiting h)
+reached_now start k h f t e = reached_coming k (stage start.stage h) (base h) (bundles_waiting h) (along_coming start h f t e)
 
 told_here : {V : Type 0} (start : Start V) (k : ℕ) (v : V) (j : ℕ) (u : Option V) (c : Content V) (h : Trace V) → Flows h → Fits start h → Tells start u c h
     → (after c (served start.stage h) ≡ Gone → ⊥) → IsChange k v j u → Told start k v (Sends j u c ∷ h)
@@ -125,7 +125,7 @@ told_here start k v j (Some w) Nothing h f t tells ne i =
 told_here start k v j (Some w) (Gives x) h f t tells ne i =
     let same : x ≡ v = (let e : Some w ≡ Some x = tells.0 in let a : w ≡ v = i.1 in cc) in
     inr (inl (subst (λ ds. Stands k (Gives v) ds) (sym (sent_waits (record { entry = j; epoch = heard h; content = Gives x }) h f))
-    (stands_last k (Gives v) (record { entry = j; epoch = heard h; content = Gives x }) (waiting h) i.0 (ap Gives same))))
+    (stands_last k (Gives v) (record { entry = j; epoch = heard h; content = Gives x }) (bundles_waiting h) i.0 (ap Gives same))))
 told_here start k v j (Some w) (Begins x) h f t tells ne i =
     told_sent k (base h) v (stage start.stage h) (record { entry = j; epoch = heard h; content = Begins x }) h f (omega (arith, i.0))
     (inr (inr (reached_now start k h f t tells.1)))
@@ -159,15 +159,15 @@ changed start k v (_ ∷ h) f o t ne e = changed start k v h f.1 o.1 t.1 ne e
 pub changes_wait : (V : Type 0) → ChangesBehindThePointWait V
 changes_wait V start k v h r live held e behind = go (served start.stage h) refl
   where
-    path : (s : Stage) → served start.stage h ≡ s → Along {V = V} false s Held (waiting h)
-    path s i = subst (λ z. Along {V = V} false s z (waiting h)) held (subst (λ z. Along {V = V} false z (stage start.stage h) (waiting h)) i (subst (λ b. Along {V = V} b (served start.stage h) (stage start.stage h) (waiting h)) live (along start h r.flows r.fits)))
+    path : (s : Stage) → served start.stage h ≡ s → Along {V = V} false s Held (bundles_waiting h)
+    path s i = subst (λ z. Along {V = V} false s z (bundles_waiting h)) held (subst (λ z. Along {V = V} false z (stage start.stage h) (bundles_waiting h)) i (subst (λ b. Along {V = V} b (served start.stage h) (stage start.stage h) (bundles_waiting h)) live (along start h r.flows r.fits)))
 
-    done : Told start k v h → Stands k (Gives v) (waiting h) ⊎ RemovalStands (waiting h)
+    done : Told start k v h → Stands k (Gives v) (bundles_waiting h) ⊎ RemovalStands (bundles_waiting h)
     done (inl i) = absurd (omega arith)
     done (inr (inl i)) = inl i
-    done (inr (inr i)) = absurd (omega (arith, behind, reached_here k (stage start.stage h) (base h) (waiting h) i held))
+    done (inr (inr i)) = absurd (omega (arith, behind, reached_here k (stage start.stage h) (base h) (bundles_waiting h) i held))
 
-    go : (s : Stage) → served start.stage h ≡ s → Stands k (Gives v) (waiting h) ⊎ RemovalStands (waiting h)
-    go Gone i = inr (removal_waits (waiting h) (path Gone i))
-    go Coming i = absurd (never_back Held (waiting h) (λ x. cc) (path Coming i))
+    go : (s : Stage) → served start.stage h ≡ s → Stands k (Gives v) (bundles_waiting h) ⊎ RemovalStands (bundles_waiting h)
+    go Gone i = inr (removal_waits (bundles_waiting h) (path Gone i))
+    go Coming i = absurd (never_back Held (bundles_waiting h) (λ x. cc) (path Coming i))
     go Held i = done (changed start k v h r.flows r.ordered r.fits (is_served (served start.stage h) i) e)

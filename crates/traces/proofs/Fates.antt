@@ -4,7 +4,7 @@ use Rattle.std.specs.Prelude.{◌==◌}
 use Rattle.std.proofs.lemmas.Bool.{eq-eqb, ne_eqb, cases_eq}
 use Rattle.traces.specs.Event.{Bundle}
 use Rattle.traces.specs.Event.Event.{Writes, Sends, Takes, Accepts, Reverts, Ignores, Changes}
-use Rattle.traces.specs.Links.{heard, waiting, last_sent, now}
+use Rattle.traces.specs.Links.{heard, bundles_waiting, last_sent, now}
 use Rattle.traces.specs.Field.{Trace}
 use Rattle.traces.specs.Words.{newest, base, Fate, fate}
 use Rattle.traces.specs.Words.Fate.{Unheard, Accepted, Reverted, Ignored}
@@ -61,21 +61,21 @@ parted_judged j m b n e [] l u r = tt
 parted_judged j m b n e (d ∷ ds) l u r = (λ i. omega (arith, rising_end d.entry n e ds r.2), λ i. absurd (omega (arith, r.1)), parted_judged j m d.entry n e ds l u r.2)
 
 parted_hear : {V : Type 0} (made : Fate) (h : Trace V) → Flows h → Ordered h → now h < entry_of made → newest h ≤ heard h + 1
-    → (newest h ≤ heard h → Parted (entry_of (fate (newest h) h)) (newest h) (waiting h))
-    → Parted (entry_of (if newest h == (heard h + 1) then made else fate (newest h) h)) (newest h) (waiting h)
+    → (newest h ≤ heard h → Parted (entry_of (fate (newest h) h)) (newest h) (bundles_waiting h))
+    → Parted (entry_of (if newest h == (heard h + 1) then made else fate (newest h) h)) (newest h) (bundles_waiting h)
 parted_hear made h f o l u before = go (cases_eq (newest h) (heard h + 1))
   where
-    go : ((newest h ≡ heard h + 1) ⊎ (newest h ≡ heard h + 1 → ⊥)) → Parted (entry_of (if newest h == (heard h + 1) then made else fate (newest h) h)) (newest h) (waiting h)
-    go (inl e) = rw (eq-eqb (newest h) (heard h + 1) e) (parted_judged (entry_of made) (newest h) (base h) (last_sent h) (heard h) (waiting h) (omega (arith, last_sent_past h o)) (omega arith) (rising h f o))
+    go : ((newest h ≡ heard h + 1) ⊎ (newest h ≡ heard h + 1 → ⊥)) → Parted (entry_of (if newest h == (heard h + 1) then made else fate (newest h) h)) (newest h) (bundles_waiting h)
+    go (inl e) = rw (eq-eqb (newest h) (heard h + 1) e) (parted_judged (entry_of made) (newest h) (base h) (last_sent h) (heard h) (bundles_waiting h) (omega (arith, last_sent_past h o)) (omega arith) (rising h f o))
     go (inr ne) = rw (ne_eqb (newest h) (heard h + 1) ne) (before (omega arith))
 
-pub parted : {V : Type 0} (h : Trace V) → Flows h → Ordered h → newest h ≤ heard h → Parted (entry_of (fate (newest h) h)) (newest h) (waiting h)
+pub parted : {V : Type 0} (h : Trace V) → Flows h → Ordered h → newest h ≤ heard h → Parted (entry_of (fate (newest h) h)) (newest h) (bundles_waiting h)
 parted [] f o u = tt
 parted (Writes None ∷ h) f o u = subst (λ ds. Parted (entry_of (fate (newest h) h)) (newest h) ds) refl (parted h f.1 o.1 u)
 parted (Writes (Some v) ∷ h) f o u = absurd (omega (arith, waiting_count h f.1))
 parted (Sends k w c ∷ h) f o u =
     subst (λ ds. Parted (entry_of (fate (newest h) h)) (newest h) ds) (sym (sent_waits (record { entry = k; epoch = heard h; content = c }) h f.1))
-    (parted_push (entry_of (fate (newest h) h)) (newest h) (record { entry = k; epoch = heard h; content = c }) (waiting h) u (omega (arith, o.0.after, judged_past (newest h) h o.1)) (parted h f.1 o.1 u))
+    (parted_push (entry_of (fate (newest h) h)) (newest h) (record { entry = k; epoch = heard h; content = c }) (bundles_waiting h) u (omega (arith, o.0.after, judged_past (newest h) h o.1)) (parted h f.1 o.1 u))
 parted (Takes d ∷ h) f o u =
     let p : Parted (entry_of (fate (newest h) h)) (newest h) (d ∷ f.0.rest) = subst (λ ds. Parted (entry_of (fate (newest h) h)) (newest h) ds) f.0.is (parted h f.1 o.1 u) in
     subst (λ ds. Parted (entry_of (fate (newest h) h)) (newest h) ds) (sym (taken_leaves d h f.0)) p.2
@@ -83,6 +83,6 @@ parted (Accepts k w ∷ h) f o u = parted_hear (Accepted k) h f.1 o.1 o.0 u (par
 parted (Ignores k w ∷ h) f o u = parted_hear (Ignored k) h f.1 o.1 o.0 u (parted h f.1 o.1)
 parted (Reverts k w c ∷ h) f o u =
     subst (λ ds. Parted (entry_of (fate (newest h) (Reverts k w c ∷ h))) (newest h) ds) (sym (sent_waits (record { entry = k; epoch = heard h + 1; content = c }) h f.1))
-    (parted_push (entry_of (fate (newest h) (Reverts k w c ∷ h))) (newest h) (record { entry = k; epoch = heard h + 1; content = c }) (waiting h) u
+    (parted_push (entry_of (fate (newest h) (Reverts k w c ∷ h))) (newest h) (record { entry = k; epoch = heard h + 1; content = c }) (bundles_waiting h) u
     (judged_past (newest h) (Reverts k w c ∷ h) o) (parted_hear (Reverted k) h f.1 o.1 o.0 u (parted h f.1 o.1)))
 parted (_ ∷ h) f o u = parted h f.1 o.1 u

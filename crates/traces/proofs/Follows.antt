@@ -6,7 +6,7 @@ use Rattle.std.specs.Prelude.{nat_lt}
 use Rattle.std.proofs.lemmas.Bool.{lt-ltb, le-ltb}
 use Rattle.traces.specs.Event.{Bundle}
 use Rattle.traces.specs.Event.Event.{Writes, Sends, Takes, Accepts, Reverts, Ignores, Changes, Ends, Rests}
-use Rattle.traces.specs.Links.{heard, waiting, ended, last_sent}
+use Rattle.traces.specs.Links.{heard, bundles_waiting, ended, last_sent}
 use Rattle.traces.specs.Field.{Content, FieldEvent, Trace}
 use Rattle.traces.specs.Field.Content.{Nothing, Gives, Begins, Removes}
 use Rattle.traces.specs.Words.{Start, Stage, or_else, value, value_at, after, stage, served, newest, own_value, while_held, base}
@@ -77,7 +77,7 @@ abbrev pub Serves : {V : Type 0} → Start V → Trace V → Option V → Type 0
 Serves start h = InTheEnd (ended h) (served start.stage h) (value start.initial h)
 
 abbrev pub FollowsIn : {V : Type 0} → Start V → Trace V → Type 0
-FollowsIn start h = Follows (newest h) (λ k. value_at start.initial k h) (Serves start h) (waiting h) (replay start h)
+FollowsIn start h = Follows (newest h) (λ k. value_at start.initial k h) (Serves start h) (bundles_waiting h) (replay start h)
 
 live_end : {V : Type 0} (b : Bool) (serves : Stage) (x : V) (o : Option V) → b ≡ false → InTheEnd b serves x o → o ≡ while_held serves x
 live_end b serves x o e i = subst (λ z. InTheEnd z serves x o) e i
@@ -119,22 +119,22 @@ sent_serves start u c h o t e = ap (taken_over c false) e ∙ taken_held c false
 
 -- the newest write is heard: all that waits is obsolete
 restart : {V : Type 0} (start : Start V) (at : ℕ → V) (more : Option V → Type 0) (h : Trace V) → Flows h → Ordered h → Fits start h → newest h ≡ heard h + 1
-    → ((o : Option V) → InTheEnd (ended h) (served start.stage h) (own_value start.initial h) o → more o) → Follows (newest h) at more (waiting h) (replay start h)
+    → ((o : Option V) → InTheEnd (ended h) (served start.stage h) (own_value start.initial h) o → more o) → Follows (newest h) at more (bundles_waiting h) (replay start h)
 restart start at more h f o t e to =
     let unheard_yet : unanswered start.stage h ≡ true = open_from start.stage h (omega arith) (ap (is_answer start.stage h) (unheard (newest h) h (omega arith))) in
     let shown : replay start h ≡ while_held (stage start.stage h) (own_value start.initial h) = shows_own start h f o t unheard_yet in
     let come : stage start.stage h ≡ Coming → ⊥ = (λ i. let none : newest h ≡ 0 = coming_unwritten start h t i in omega arith) in
-    subst (λ z. Follows (newest h) at more (waiting h) z) (sym shown)
-    (follows_over (newest h) at at (InTheEnd (ended h) (served start.stage h) (own_value start.initial h)) more (base h) (last_sent h) (heard h) (waiting h) (while_held (stage start.stage h) (own_value start.initial h))
+    subst (λ z. Follows (newest h) at more (bundles_waiting h) z) (sym shown)
+    (follows_over (newest h) at at (InTheEnd (ended h) (served start.stage h) (own_value start.initial h)) more (base h) (last_sent h) (heard h) (bundles_waiting h) (while_held (stage start.stage h) (own_value start.initial h))
     (rising h f o) (λ k l. refl) to
-    (follows_obsolete (newest h) at (own_value start.initial h) (ended h) (served start.stage h) (stage start.stage h) (base h) (last_sent h) (heard h) (waiting h)
+    (follows_obsolete (newest h) at (own_value start.initial h) (ended h) (served start.stage h) (stage start.stage h) (base h) (last_sent h) (heard h) (bundles_waiting h)
     (rising h f o) (omega arith) come (along start h f t)))
 
 -- events that leave what is shown: the parent's values at earlier entries stay
 same_shown : {V : Type 0} (start : Start V) (e : FieldEvent V) (more : Option V → Type 0) (h : Trace V) → Flows h → Ordered h → Order e h
-    → ((o : Option V) → Serves start h o → more o) → FollowsIn start h → Follows (newest h) (λ k. value_at start.initial k (e ∷ h)) more (waiting h) (replay start h)
+    → ((o : Option V) → Serves start h o → more o) → FollowsIn start h → Follows (newest h) (λ k. value_at start.initial k (e ∷ h)) more (bundles_waiting h) (replay start h)
 same_shown start e more h f o oe to before =
-    follows_over (newest h) (λ k. value_at start.initial k h) (λ k. value_at start.initial k (e ∷ h)) (Serves start h) more (base h) (last_sent h) (heard h) (waiting h) (replay start h)
+    follows_over (newest h) (λ k. value_at start.initial k h) (λ k. value_at start.initial k (e ∷ h)) (Serves start h) more (base h) (last_sent h) (heard h) (bundles_waiting h) (replay start h)
     (rising h f o) (λ k l. sym (value_over start.initial k e h oe (omega (arith, last_sent_past h o)))) to before
 
 -- the bundle that reverts leads to the parent's value
@@ -144,11 +144,11 @@ gives_back c s x back o e i j =
 
 pub follows : {V : Type 0} (start : Start V) (h : Trace V) → Flows h → Ordered h → Fits start h → newest h ≤ heard h → FollowsIn start h
 follows start [] f o t u = refl
-follows start (Writes None ∷ h) f o t u = subst (λ z. Follows (newest h) (λ k. value_at start.initial k h) (Serves start h) (waiting h) z) (sym (written_none (replay start h))) (follows start h f.1 o.1 t.1 u)
+follows start (Writes None ∷ h) f o t u = subst (λ z. Follows (newest h) (λ k. value_at start.initial k h) (Serves start h) (bundles_waiting h) z) (sym (written_none (replay start h))) (follows start h f.1 o.1 t.1 u)
 follows start (Writes (Some v) ∷ h) f o t u = absurd (omega (arith, waiting_count h f.1))
 follows {V = V} start (Sends k w c ∷ h) f o t u =
     subst (λ ds. Follows (newest h) (λ j. value_at start.initial j (Sends k w c ∷ h)) (Serves start (Sends k w c ∷ h)) ds (replay start h)) (sym (sent_waits d h f.1))
-    (follows_push (newest h) (λ j. value_at start.initial j (Sends k w c ∷ h)) (Serves start h) (Serves start (Sends k w c ∷ h)) d (waiting h) (replay start h) u next
+    (follows_push (newest h) (λ j. value_at start.initial j (Sends k w c ∷ h)) (Serves start h) (Serves start (Sends k w c ∷ h)) d (bundles_waiting h) (replay start h) u next
     (same_shown start (Sends k w c) (Serves start h) h f.1 o.1 o.0 (λ x i. i) (follows start h f.1 o.1 t.1 u)))
   where
     d : Bundle (Content V)
@@ -184,7 +184,7 @@ follows start (Ignores k (Some v) ∷ h) f o t u =
 follows start (Reverts k None c ∷ h) f o t u = let some : false ≡ true = t.0.of_write in absurd cc
 follows {V = V} start (Reverts k (Some v) c ∷ h) f o t u =
     subst (λ ds. Follows (newest h) (λ j. value_at start.initial j h) (Serves start (Reverts k (Some v) c ∷ h)) ds (replay start h)) (sym (sent_waits d h f.1))
-    (follows_push (newest h) (λ j. value_at start.initial j h) (InTheEnd (ended h) (served start.stage h) (own_value start.initial h)) (Serves start (Reverts k (Some v) c ∷ h)) d (waiting h) (replay start h) u next
+    (follows_push (newest h) (λ j. value_at start.initial j h) (InTheEnd (ended h) (served start.stage h) (own_value start.initial h)) (Serves start (Reverts k (Some v) c ∷ h)) d (bundles_waiting h) (replay start h) u next
     (restart start (λ j. value_at start.initial j h) (InTheEnd (ended h) (served start.stage h) (own_value start.initial h)) h f.1 o.1 t.1 (omega (arith, own.0)) (λ x i. i)))
   where
     own : (heard h + 1 ≤ newest h) × (newest h ≡ heard h + 1 → v ≡ own_value start.initial h)

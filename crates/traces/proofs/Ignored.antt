@@ -3,7 +3,7 @@ use Rattle.std.proofs.Common.{◌≡◌, ℕ, ◌+◌, ◌<◌, ◌⊎◌, inl, 
 use Rattle.std.proofs.lemmas.Bool.{cases_eq}
 use Rattle.traces.specs.Event.{Bundle}
 use Rattle.traces.specs.Event.Event.{Writes, Sends, Takes, Accepts, Reverts, Ignores, Ends}
-use Rattle.traces.specs.Links.{heard, written, waiting, last_sent}
+use Rattle.traces.specs.Links.{heard, written, bundles_waiting, last_sent}
 use Rattle.traces.specs.Field.{Content, Trace}
 use Rattle.traces.specs.Field.Content.{Nothing, Gives, Begins, Removes}
 use Rattle.traces.specs.Words.{Start, served, newest, base, fate}
@@ -65,14 +65,14 @@ gives_nothing start u (Begins v) P h t g = tt
 gives_nothing start u Removes P h t g = tt
 
 -- where the newest write was ignored in entry k, what waits gives values of before k alone
-pub ignored_before : {V : Type 0} (start : Start V) (k : ℕ) (h : Trace V) → Flows h → Ordered h → Fits start h → fate (newest h) h ≡ Ignored k → GivenBefore k (waiting h)
+pub ignored_before : {V : Type 0} (start : Start V) (k : ℕ) (h : Trace V) → Flows h → Ordered h → Fits start h → fate (newest h) h ≡ Ignored k → GivenBefore k (bundles_waiting h)
 ignored_before start k [] f o t e = absurd cc
 ignored_before start k (Writes None ∷ h) f o t e = ignored_before start k h f.1 o.1 t.1 e
 ignored_before start k (Writes (Some v) ∷ h) f o t e =
     let i : fate (written h + 1) h ≡ Unheard = unheard (written h + 1) h (omega (arith, waiting_count h f.1)) in absurd cc
 ignored_before start k (Sends j u c ∷ h) f o t e =
     subst (λ ds. GivenBefore k ds) (sym (sent_waits (record { entry = j; epoch = heard h; content = c }) h f.1))
-    (before_push k (record { entry = j; epoch = heard h; content = c }) (waiting h) (gives_nothing start u c (j < k) h t.0 (ignored_gone start k h f.1 t.1 e)) (ignored_before start k h f.1 o.1 t.1 e))
+    (before_push k (record { entry = j; epoch = heard h; content = c }) (bundles_waiting h) (gives_nothing start u c (j < k) h t.0 (ignored_gone start k h f.1 t.1 e)) (ignored_before start k h f.1 o.1 t.1 e))
 ignored_before start k (Takes d ∷ h) f o t e =
     let g : GivenBefore k (d ∷ f.0.rest) = subst (λ ds. GivenBefore k ds) f.0.is (ignored_before start k h f.1 o.1 t.1 e) in
     subst (λ ds. GivenBefore k ds) (sym (taken_leaves d h f.0)) g.1
@@ -82,7 +82,7 @@ ignored_before start k (Reverts j w c ∷ h) f o t e =
     let held : served start.stage h ≡ Held = t.0.serves in absurd cc
 ignored_before start k (Ignores j w ∷ h) f o t e = go (cases_eq j k) (ignored_before start k h f.1 o.1 t.1)
   where
-    go : ((j ≡ k) ⊎ (j ≡ k → ⊥)) → (fate (newest h) h ≡ Ignored k → GivenBefore k (waiting h)) → GivenBefore k (waiting h)
-    go (inl i) before = all_before k (base h) (last_sent h) (heard h) (waiting h) (omega (arith, o.0, last_sent_past h o.1)) (rising h f.1 o.1)
+    go : ((j ≡ k) ⊎ (j ≡ k → ⊥)) → (fate (newest h) h ≡ Ignored k → GivenBefore k (bundles_waiting h)) → GivenBefore k (bundles_waiting h)
+    go (inl i) before = all_before k (base h) (last_sent h) (heard h) (bundles_waiting h) (omega (arith, o.0, last_sent_past h o.1)) (rising h f.1 o.1)
     go (inr i) before = before (same_fate (newest h) (Ignored j) (Ignored k) h (λ x. let same : j ≡ k = cc in i same) e)
 ignored_before start k (_ ∷ h) f o t e = ignored_before start k h f.1 o.1 t.1 e

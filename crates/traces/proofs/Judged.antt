@@ -4,7 +4,7 @@ use Rattle.std.specs.Prelude.{◌==◌}
 use Rattle.std.proofs.lemmas.Bool.{eqb-true, eqb-false, cases_eq, or_cases, or_parts}
 use Rattle.traces.specs.Event.{Bundle}
 use Rattle.traces.specs.Event.Event.{Sends, Takes, Accepts, Reverts, Ignores, Changes}
-use Rattle.traces.specs.Links.{heard, sent, taken, waiting, last_sent, now}
+use Rattle.traces.specs.Links.{heard, bundles_sent, takes, bundles_waiting, last_sent, now}
 use Rattle.traces.specs.Field.{Content, Trace}
 use Rattle.traces.specs.Field.Content.{Gives}
 use Rattle.traces.specs.Words.{Start, value_at, base, Fate, fate, took}
@@ -58,12 +58,12 @@ stands_later k c b n e (d ∷ ds) r (inl i) = omega (arith, r.0, i.0)
 stands_later k c b n e (d ∷ ds) r (inr s) = omega (arith, r.0, stands_later k c d.entry n e ds r.2 s)
 
 -- what waits goes on waiting when a bundle is sent
-pub stands_sent : {V : Type 0} (k : ℕ) (c : Content V) (d : Bundle (Content V)) (h : Trace V) → Flows h → Stands k c (waiting h) → Stands k c (drop (taken h) (sent h ++ d ∷ []))
-stands_sent k c d h f s = subst (λ ds. Stands k c ds) (sym (sent_waits d h f)) (stands_push k c d (waiting h) s)
+pub stands_sent : {V : Type 0} (k : ℕ) (c : Content V) (d : Bundle (Content V)) (h : Trace V) → Flows h → Stands k c (bundles_waiting h) → Stands k c (drop (takes h) (bundles_sent h ++ d ∷ []))
+stands_sent k c d h f s = subst (λ ds. Stands k c ds) (sym (sent_waits d h f)) (stands_push k c d (bundles_waiting h) s)
 
 -- and when another one is taken
-pub stands_taken : {V : Type 0} (k : ℕ) (c : Content V) (d : Bundle (Content V)) (h : Trace V) (f : IsFirst d (waiting h)) → (d.entry ≡ k → ⊥)
-    → Stands k c (waiting h) → Stands k c (drop (taken h + 1) (sent h))
+pub stands_taken : {V : Type 0} (k : ℕ) (c : Content V) (d : Bundle (Content V)) (h : Trace V) (f : IsFirst d (bundles_waiting h)) → (d.entry ≡ k → ⊥)
+    → Stands k c (bundles_waiting h) → Stands k c (drop (takes h + 1) (bundles_sent h))
 stands_taken k c d h f ne s = subst (λ ds. Stands k c ds) (sym (taken_leaves d h f)) (go (subst (λ ds. Stands k c ds) f.is s))
   where
     go : Stands k c (d ∷ f.rest) → Stands k c f.rest
@@ -83,28 +83,28 @@ reverted_past n k h o e = subst (λ f. entry_of f ≤ now h) e (judged_past n h 
 
 -- a reverted write whose revert wasn't taken has it in the waiting bundle of its entry
 pub reverts_wait : {V : Type 0} (start : Start V) (n k : ℕ) (h : Trace V) → Flows h → Ordered h → Fits start h → fate n h ≡ Reverted k → took k h ≡ false
-    → Stands k (Gives (value_at start.initial k h)) (waiting h)
+    → Stands k (Gives (value_at start.initial k h)) (bundles_waiting h)
 reverts_wait start n k [] f o t e u = absurd cc
 reverts_wait start n k (Sends j w c ∷ h) f o t e u =
-    subst (λ v. Stands k (Gives v) (waiting (Sends j w c ∷ h))) (sym (value_over start.initial k (Sends j w c) h o.0 (reverted_past n k h o.1 e)))
+    subst (λ v. Stands k (Gives v) (bundles_waiting (Sends j w c ∷ h))) (sym (value_over start.initial k (Sends j w c) h o.0 (reverted_past n k h o.1 e)))
     (stands_sent k (Gives (value_at start.initial k h)) (record { entry = j; epoch = heard h; content = c }) h f.1 (reverts_wait start n k h f.1 o.1 t.1 e u))
 reverts_wait start n k (Takes d ∷ h) f o t e u =
     let p : ((d.entry == k) ≡ false) × (took k h ≡ false) = or_parts (d.entry == k) (took k h) u in
     stands_taken k (Gives (value_at start.initial k h)) d h f.0 (eqb-false d.entry k p.0) (reverts_wait start n k h f.1 o.1 t.1 e p.1)
 reverts_wait start n k (Accepts j w ∷ h) f o t e u =
     let i : fate n h ≡ Reverted k = same_fate n (Accepted j) (Reverted k) h (λ x. cc) e in
-    subst (λ v. Stands k (Gives v) (waiting h)) (sym (value_over start.initial k (Accepts j w) h o.0 (reverted_past n k h o.1 i))) (reverts_wait start n k h f.1 o.1 t.1 i u)
+    subst (λ v. Stands k (Gives v) (bundles_waiting h)) (sym (value_over start.initial k (Accepts j w) h o.0 (reverted_past n k h o.1 i))) (reverts_wait start n k h f.1 o.1 t.1 i u)
 reverts_wait start n k (Ignores j w ∷ h) f o t e u = reverts_wait start n k h f.1 o.1 t.1 (same_fate n (Ignored j) (Reverted k) h (λ x. cc) e) u
 reverts_wait start n k (Changes j w ∷ h) f o t e u =
-    subst (λ v. Stands k (Gives v) (waiting h)) (sym (value_over start.initial k (Changes j w) h o.0 (reverted_past n k h o.1 e))) (reverts_wait start n k h f.1 o.1 t.1 e u)
+    subst (λ v. Stands k (Gives v) (bundles_waiting h)) (sym (value_over start.initial k (Changes j w) h o.0 (reverted_past n k h o.1 e))) (reverts_wait start n k h f.1 o.1 t.1 e u)
 reverts_wait start n k (Reverts j w c ∷ h) f o t e u = go (cases_eq j k) (reverts_wait start n k h f.1 o.1 t.1)
   where
-    go : ((j ≡ k) ⊎ (j ≡ k → ⊥)) → (fate n h ≡ Reverted k → took k h ≡ false → Stands k (Gives (value_at start.initial k h)) (waiting h))
-        → Stands k (Gives (value_at start.initial k h)) (waiting (Reverts j w c ∷ h))
+    go : ((j ≡ k) ⊎ (j ≡ k → ⊥)) → (fate n h ≡ Reverted k → took k h ≡ false → Stands k (Gives (value_at start.initial k h)) (bundles_waiting h))
+        → Stands k (Gives (value_at start.initial k h)) (bundles_waiting (Reverts j w c ∷ h))
     go (inl i) before =
         let past : now h ≤ k = omega (arith, o.0) in
         subst (λ ds. Stands k (Gives (value_at start.initial k h)) ds) (sym (sent_waits (record { entry = j; epoch = heard h + 1; content = c }) h f.1))
-        (stands_last k (Gives (value_at start.initial k h)) (record { entry = j; epoch = heard h + 1; content = c }) (waiting h) i
+        (stands_last k (Gives (value_at start.initial k h)) (record { entry = j; epoch = heard h + 1; content = c }) (bundles_waiting h) i
         (t.0.back ∙ ap Gives (sym (value_past start.initial k h o.1 past))))
     go (inr i) before = stands_sent k (Gives (value_at start.initial k h)) (record { entry = j; epoch = heard h + 1; content = c }) h f.1
         (before (same_fate n (Reverted j) (Reverted k) h (λ x. let same : j ≡ k = cc in i same) e) u)

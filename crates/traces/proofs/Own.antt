@@ -4,7 +4,7 @@ use Rattle.std.specs.Prelude.{nat_lt, ◌==◌}
 use Rattle.std.proofs.lemmas.Bool.{lt-ltb, ltb-true, ltb-false, eqb-false, cases_eq, and_parts, or_parts, not-true}
 use Rattle.traces.specs.Event.{Bundle}
 use Rattle.traces.specs.Event.Event.{Writes, Takes, Accepts, Reverts, Ignores}
-use Rattle.traces.specs.Links.{heard, waiting, last_sent}
+use Rattle.traces.specs.Links.{heard, bundles_waiting, last_sent}
 use Rattle.traces.specs.Field.{Content, Trace}
 use Rattle.traces.specs.Field.Content.{Nothing, Gives, Begins, Removes}
 use Rattle.traces.specs.Words.{Start, Stage, value_at, after, stage, newest, own_value, while_held, base, Fate, fate, took, is_gone, is_answer, answered, unanswered}
@@ -59,7 +59,7 @@ hear_open s made h e =
     open_from s h (ltb-true 0 (newest h) p.0) (heard_open s made h (not-true (is_answer s h (if newest h == (heard h + 1) then made else fate (newest h) h)) p.1))
 
 -- while the newest write is open, a bundle that gives a value is obsolete
-open_obsolete : {V : Type 0} (start : Start V) (d : Bundle (Content V)) (v : V) (h : Trace V) → Flows h → Ordered h → Fits start h → (first : IsFirst d (waiting h))
+open_obsolete : {V : Type 0} (start : Start V) (d : Bundle (Content V)) (v : V) (h : Trace V) → Flows h → Ordered h → Fits start h → (first : IsFirst d (bundles_waiting h))
     → unanswered start.stage (Takes d ∷ h) ≡ true → stage start.stage h ≡ Held → d.content ≡ Gives v → newest h ≤ d.epoch → ⊥
 open_obsolete start d v h f o t first u held c l = go (fate (newest h) h) refl facts.1
   where
@@ -94,7 +94,7 @@ open_obsolete start d v h f o t first u held c l = go (fate (newest h) h) refl f
         omega arith
 
 -- what is shown after a take, while the newest write is open
-taken_own : {V : Type 0} (start : Start V) (d : Bundle (Content V)) (x : V) (h : Trace V) → Flows h → Ordered h → Fits start h → (first : IsFirst d (waiting h))
+taken_own : {V : Type 0} (start : Start V) (d : Bundle (Content V)) (x : V) (h : Trace V) → Flows h → Ordered h → Fits start h → (first : IsFirst d (bundles_waiting h))
     → unanswered start.stage (Takes d ∷ h) ≡ true → (unanswered start.stage h ≡ true → replay start h ≡ while_held (stage start.stage h) x)
     → (c : Content V) → d.content ≡ c → taken_over c (is_obsolete (newest h) d) (replay start h) ≡ while_held (after c (stage start.stage h)) x
 taken_own start d x h f o t first u before Nothing e = before (still_open start.stage d h (ap (λ c. after c (stage start.stage h)) e) u)

@@ -3,7 +3,7 @@ use Rattle.std.proofs.Common.{◌≡◌, ℕ, ◌+◌, ◌<◌, false, Option, N
 use Rattle.std.proofs.lemmas.List.{map-append, drop-map}
 use Rattle.traces.specs.Event.{Bundle, Event}
 use Rattle.traces.specs.Event.Event.{Writes, Sends, Takes, Accepts, Reverts, Ignores, Changes, Ends, Rests}
-use Rattle.traces.specs.Links.{writes, writes_waiting, heard, sent, taken, ended, last_sent, now}
+use Rattle.traces.specs.Links.{writes, writes_waiting, heard, bundles_sent, takes, ended, last_sent, now}
 use Rattle.traces.specs.Field.{Content, Trace, Look, bundle_for, reverted_for, trace_for}
 use Rattle.traces.specs.Field.Content.{Nothing, Gives, Begins, Removes}
 use Rattle.traces.specs.Rules.{IsFirst, Flows, Rises, SentInOrder, Ordered}
@@ -14,8 +14,8 @@ use Rattle.traces.proofs.Entries.{last_sent_past}
 record Same {W B V : Type 0} (look : Look W B V) (h : List (Event W B)) (t : Trace V) : Type 0 where
   pub wrote : writes t ≡ map look.written (writes h)
   pub hears : heard t ≡ heard h
-  pub bundles : sent t ≡ map (bundle_for look.told) (sent h)
-  pub takes : taken t ≡ taken h
+  pub bundles : bundles_sent t ≡ map (bundle_for look.found_after_event) (bundles_sent h)
+  pub take_of : takes t ≡ takes h
   pub over : ended t ≡ ended h
   pub now_is : now t ≡ now h
 
@@ -23,40 +23,40 @@ record Same {W B V : Type 0} (look : Look W B V) (h : List (Event W B)) (t : Tra
 record Answered {V : Type 0} (k : ℕ) (c : Content V) (t after : Trace V) : Type 0 where
   pub wrote : writes after ≡ writes t
   pub hears : heard after ≡ heard t + 1
-  pub bundles : sent after ≡ sent t ++ record { entry = k; epoch = heard t + 1; content = c } ∷ []
-  pub takes : taken after ≡ taken t
+  pub bundles : bundles_sent after ≡ bundles_sent t ++ record { entry = k; epoch = heard t + 1; content = c } ∷ []
+  pub take_of : takes after ≡ takes t
   pub over : ended after ≡ ended t
   pub now_is : now after ≡ k
 
 answer : {V : Type 0} (k : ℕ) (w : Option V) (c : Content V) (t : Trace V) → Answered k c t (reverted_for k w c t)
-answer k None c t = record { wrote = refl; hears = refl; bundles = refl; takes = refl; over = refl; now_is = refl }
-answer k (Some v) Nothing t = record { wrote = refl; hears = refl; bundles = refl; takes = refl; over = refl; now_is = refl }
-answer k (Some v) (Gives b) t = record { wrote = refl; hears = refl; bundles = refl; takes = refl; over = refl; now_is = refl }
-answer k (Some v) (Begins b) t = record { wrote = refl; hears = refl; bundles = refl; takes = refl; over = refl; now_is = refl }
-answer k (Some v) Removes t = record { wrote = refl; hears = refl; bundles = refl; takes = refl; over = refl; now_is = refl }
+answer k None c t = record { wrote = refl; hears = refl; bundles = refl; take_of = refl; over = refl; now_is = refl }
+answer k (Some v) Nothing t = record { wrote = refl; hears = refl; bundles = refl; take_of = refl; over = refl; now_is = refl }
+answer k (Some v) (Gives b) t = record { wrote = refl; hears = refl; bundles = refl; take_of = refl; over = refl; now_is = refl }
+answer k (Some v) (Begins b) t = record { wrote = refl; hears = refl; bundles = refl; take_of = refl; over = refl; now_is = refl }
+answer k (Some v) Removes t = record { wrote = refl; hears = refl; bundles = refl; take_of = refl; over = refl; now_is = refl }
 
-pushed : {B V : Type 0} (told : B → Content V) (k m n : ℕ) (c : B) (ds : List (Bundle B)) (es : List (Bundle (Content V))) → es ≡ map (bundle_for told) ds → m ≡ n
-    → es ++ record { entry = k; epoch = m; content = told c } ∷ [] ≡ map (bundle_for told) (ds ++ record { entry = k; epoch = n; content = c } ∷ [])
-pushed told k m n c ds es e i =
-    ap (λ x. x ++ record { entry = k; epoch = m; content = told c } ∷ []) e
-    ∙ ap (λ x. map (bundle_for told) ds ++ record { entry = k; epoch = x; content = told c } ∷ []) i
-    ∙ sym (map-append (bundle_for told) ds (record { entry = k; epoch = n; content = c } ∷ []))
+pushed : {B V : Type 0} (found_after_event : B → Content V) (k m n : ℕ) (c : B) (ds : List (Bundle B)) (es : List (Bundle (Content V))) → es ≡ map (bundle_for found_after_event) ds → m ≡ n
+    → es ++ record { entry = k; epoch = m; content = found_after_event c } ∷ [] ≡ map (bundle_for found_after_event) (ds ++ record { entry = k; epoch = n; content = c } ∷ [])
+pushed found_after_event k m n c ds es e i =
+    ap (λ x. x ++ record { entry = k; epoch = m; content = found_after_event c } ∷ []) e
+    ∙ ap (λ x. map (bundle_for found_after_event) ds ++ record { entry = k; epoch = x; content = found_after_event c } ∷ []) i
+    ∙ sym (map-append (bundle_for found_after_event) ds (record { entry = k; epoch = n; content = c } ∷ []))
 
 same : {W B V : Type 0} (look : Look W B V) (h : List (Event W B)) → Same look h (trace_for look h)
-same look [] = record { wrote = refl; hears = refl; bundles = refl; takes = refl; over = refl; now_is = refl }
+same look [] = record { wrote = refl; hears = refl; bundles = refl; take_of = refl; over = refl; now_is = refl }
 same look (Writes w ∷ h) = let s : Same look h (trace_for look h) = same look h in record {
   wrote = ap (λ x. x ++ look.written w ∷ []) s.wrote ∙ sym (map-append look.written (writes h) (w ∷ []));
   hears = s.hears;
   bundles = s.bundles;
-  takes = s.takes;
+  take_of = s.take_of;
   over = s.over;
   now_is = s.now_is;
 }
 same look (Sends k u c ∷ h) = let s : Same look h (trace_for look h) = same look h in record {
   wrote = s.wrote;
   hears = s.hears;
-  bundles = pushed look.told k (heard (trace_for look h)) (heard h) c (sent h) (sent (trace_for look h)) s.bundles s.hears;
-  takes = s.takes;
+  bundles = pushed look.found_after_event k (heard (trace_for look h)) (heard h) c (bundles_sent h) (bundles_sent (trace_for look h)) s.bundles s.hears;
+  take_of = s.take_of;
   over = s.over;
   now_is = refl;
 }
@@ -64,7 +64,7 @@ same look (Takes d ∷ h) = let s : Same look h (trace_for look h) = same look h
   wrote = s.wrote;
   hears = s.hears;
   bundles = s.bundles;
-  takes = ap (λ n. n + 1) s.takes;
+  take_of = ap (λ n. n + 1) s.take_of;
   over = s.over;
   now_is = s.now_is;
 }
@@ -72,7 +72,7 @@ same look (Accepts k w ∷ h) = let s : Same look h (trace_for look h) = same lo
   wrote = s.wrote;
   hears = ap (λ n. n + 1) s.hears;
   bundles = s.bundles;
-  takes = s.takes;
+  take_of = s.take_of;
   over = s.over;
   now_is = refl;
 }
@@ -80,17 +80,17 @@ same look (Ignores k w ∷ h) = let s : Same look h (trace_for look h) = same lo
   wrote = s.wrote;
   hears = ap (λ n. n + 1) s.hears;
   bundles = s.bundles;
-  takes = s.takes;
+  take_of = s.take_of;
   over = s.over;
   now_is = refl;
 }
 same look (Reverts k w c ∷ h) =
     let s : Same look h (trace_for look h) = same look h in
-    let a : Answered k (look.told c) (trace_for look h) (reverted_for k (look.written w) (look.told c) (trace_for look h)) = answer k (look.written w) (look.told c) (trace_for look h) in record {
+    let a : Answered k (look.found_after_event c) (trace_for look h) (reverted_for k (look.written w) (look.found_after_event c) (trace_for look h)) = answer k (look.written w) (look.found_after_event c) (trace_for look h) in record {
       wrote = a.wrote ∙ s.wrote;
       hears = a.hears ∙ ap (λ n. n + 1) s.hears;
-      bundles = a.bundles ∙ pushed look.told k (heard (trace_for look h) + 1) (heard h + 1) c (sent h) (sent (trace_for look h)) s.bundles (ap (λ n. n + 1) s.hears);
-      takes = a.takes ∙ s.takes;
+      bundles = a.bundles ∙ pushed look.found_after_event k (heard (trace_for look h) + 1) (heard h + 1) c (bundles_sent h) (bundles_sent (trace_for look h)) s.bundles (ap (λ n. n + 1) s.hears);
+      take_of = a.take_of ∙ s.take_of;
       over = a.over ∙ s.over;
       now_is = a.now_is;
     }
@@ -98,7 +98,7 @@ same look (Changes k u ∷ h) = let s : Same look h (trace_for look h) = same lo
   wrote = s.wrote;
   hears = s.hears;
   bundles = s.bundles;
-  takes = s.takes;
+  take_of = s.take_of;
   over = s.over;
   now_is = refl;
 }
@@ -106,7 +106,7 @@ same look (Ends ∷ h) = let s : Same look h (trace_for look h) = same look h in
   wrote = s.wrote;
   hears = s.hears;
   bundles = s.bundles;
-  takes = s.takes;
+  take_of = s.take_of;
   over = refl;
   now_is = s.now_is;
 }
@@ -114,7 +114,7 @@ same look (Rests ∷ h) = let s : Same look h (trace_for look h) = same look h i
   wrote = s.wrote;
   hears = s.hears;
   bundles = s.bundles;
-  takes = s.takes;
+  take_of = s.take_of;
   over = s.over;
   now_is = s.now_is;
 }
@@ -144,12 +144,12 @@ flows_for look (Writes w ∷ h) f = (tt, flows_for look h f.1)
 flows_for look (Sends k u c ∷ h) f = let s : Same look h (trace_for look h) = same look h in (s.over ∙ f.0, flows_for look h f.1)
 flows_for look (Takes d ∷ h) f =
     let s : Same look h (trace_for look h) = same look h in
-    (first_for (bundle_for look.told) (taken (trace_for look h)) (taken h) d (sent h) (sent (trace_for look h)) s.takes s.bundles f.0, flows_for look h f.1)
+    (first_for (bundle_for look.found_after_event) (takes (trace_for look h)) (takes h) d (bundles_sent h) (bundles_sent (trace_for look h)) s.take_of s.bundles f.0, flows_for look h f.1)
 flows_for look (Accepts k w ∷ h) f = (write_for look w h f.0, flows_for look h f.1)
 flows_for look (Ignores k w ∷ h) f = (write_for look w h f.0, flows_for look h f.1)
 flows_for look (Reverts k w c ∷ h) f =
     let s : Same look h (trace_for look h) = same look h in
-    flows_reverted k (look.written w) (look.told c) (trace_for look h) (write_for look w h f.0.first) (s.over ∙ f.0.alive) (flows_for look h f.1)
+    flows_reverted k (look.written w) (look.found_after_event c) (trace_for look h) (write_for look w h f.0.first) (s.over ∙ f.0.alive) (flows_for look h f.1)
 flows_for look (Changes k u ∷ h) f = (tt, flows_for look h f.1)
 flows_for look (Ends ∷ h) f = (tt, flows_for look h f.1)
 flows_for look (Rests ∷ h) f = (tt, flows_for look h f.1)
@@ -178,7 +178,7 @@ ordered_for look (Changes k w ∷ h) r = let s : Same look h (trace_for look h) 
 ordered_for look (Reverts k w c ∷ h) r =
     let s : Same look h (trace_for look h) = same look h in
     let o : Ordered (trace_for look h) = ordered_for look h r.1 in
-    ordered_reverted k (look.written w) (look.told c) (trace_for look h) (omega (arith, s.now_is, r.0)) (omega (arith, s.now_is, last_sent_past (trace_for look h) o, r.0)) o
+    ordered_reverted k (look.written w) (look.found_after_event c) (trace_for look h) (omega (arith, s.now_is, r.0)) (omega (arith, s.now_is, last_sent_past (trace_for look h) o, r.0)) o
 ordered_for look (Ends ∷ h) r = (tt, ordered_for look h r.1)
 ordered_for look (Rests ∷ h) r = (tt, ordered_for look h r.1)
 
@@ -190,6 +190,6 @@ projection W B V look h f r = let s : Same look h (trace_for look h) = same look
   flows = flows_for look h f;
   ordered = ordered_for look h r;
   writes_wait = waiting_for look.written (heard (trace_for look h)) (heard h) (writes h) (writes (trace_for look h)) s.hears s.wrote;
-  bundles_wait = waiting_for (bundle_for look.told) (taken (trace_for look h)) (taken h) (sent h) (sent (trace_for look h)) s.takes s.bundles;
+  bundles_wait = waiting_for (bundle_for look.found_after_event) (takes (trace_for look h)) (takes h) (bundles_sent h) (bundles_sent (trace_for look h)) s.take_of s.bundles;
   same_end = s.over;
 }

@@ -4,7 +4,7 @@ use Rattle.std.specs.Prelude.{max, nat_lt, ◌==◌}
 use Rattle.std.proofs.lemmas.Bool.{le-ltb, ltb-true, ltb-false, eqb-true, cases_eq, cases_lt, or_cases}
 use Rattle.traces.specs.Event.{Bundle}
 use Rattle.traces.specs.Event.Event.{Writes, Sends, Takes, Accepts, Reverts, Ignores, Changes}
-use Rattle.traces.specs.Links.{heard, written, waiting, last_sent, now}
+use Rattle.traces.specs.Links.{heard, written, bundles_waiting, last_sent, now}
 use Rattle.traces.specs.Field.{Content, FieldEvent, Trace}
 use Rattle.traces.specs.Field.Content.{Nothing, Gives, Begins, Removes}
 use Rattle.traces.specs.Words.{Start, Stage, point, accepted_at, view, value_at, after, stage, newest, own_value, while_held, base, Fate, fate, took, is_gone, is_answer, answered, unanswered}
@@ -106,7 +106,7 @@ obsolete_same (Begins v) s o ne e = absurd (ne v refl)
 obsolete_same Removes s o ne e = absurd cc
 
 -- a take of a bundle that isn't obsolete shows the parent's value at the entry that sent it, and that is the point
-pub taken_fresh : {V : Type 0} (start : Start V) (d : Bundle (Content V)) (h : Trace V) → Flows h → Ordered h → Fits start h → (first : IsFirst d (waiting h))
+pub taken_fresh : {V : Type 0} (start : Start V) (d : Bundle (Content V)) (h : Trace V) → Flows h → Ordered h → Fits start h → (first : IsFirst d (bundles_waiting h))
     → newest h ≤ d.epoch → after d.content (stage start.stage h) ≡ Held
     → (replay start (Takes d ∷ h) ≡ Some (value_at start.initial d.entry h)) × (max d.entry (accepted_at h) ≡ d.entry)
 taken_fresh {V = V} start d h f o t first l held = (shown, omega (arith, accepted_judged start h f o known, parts.1 l))
@@ -128,7 +128,7 @@ taken_fresh {V = V} start d h f o t first l held = (shown, omega (arith, accepte
         (shows_kept start (Takes d ∷ h)) held (head.0 (le-ltb d.epoch (newest h) l))
 
 -- a take of an obsolete bundle, with the newest write answered: it was accepted, and behind the bundle
-taken_obsolete : {V : Type 0} (start : Start V) (d : Bundle (Content V)) (h : Trace V) → Flows h → Ordered h → Fits start h → (first : IsFirst d (waiting h))
+taken_obsolete : {V : Type 0} (start : Start V) (d : Bundle (Content V)) (h : Trace V) → Flows h → Ordered h → Fits start h → (first : IsFirst d (bundles_waiting h))
     → d.epoch < newest h → unanswered start.stage (Takes d ∷ h) ≡ false → after d.content (stage start.stage h) ≡ Held
     → (unanswered start.stage h ≡ false → stage start.stage h ≡ Held → replay start h ≡ Some (value_at start.initial (point h) h))
     → taken_over d.content true (replay start h) ≡ Some (value_at start.initial (max d.entry (accepted_at h)) h)

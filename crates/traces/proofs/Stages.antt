@@ -3,7 +3,7 @@ use Rattle.std.proofs.Common.{◌≡◌, ◌+◌, Bool, true, false, Option, Non
 use Rattle.std.specs.Bool.{MatchBool}
 use Rattle.traces.specs.Event.{Bundle}
 use Rattle.traces.specs.Event.Event.{Writes, Sends, Takes, Reverts, Ends}
-use Rattle.traces.specs.Links.{heard, waiting, ended}
+use Rattle.traces.specs.Links.{heard, bundles_waiting, ended}
 use Rattle.traces.specs.Field.{Content, Trace}
 use Rattle.traces.specs.Field.Content.{Nothing, Gives, Begins, Removes}
 use Rattle.traces.specs.Words.{Start, Stage, or_else, value, after, stage, served, newest, while_held}
@@ -62,24 +62,24 @@ tells_coming start u Removes h t = tt
 back_coming : {V : Type 0} (v : V) (c : Content V) (s : Stage) → c ≡ Gives v → FromComing c s
 back_coming v c s e = subst (λ x. FromComing x s) (sym e) tt
 
-pub along : {V : Type 0} (start : Start V) (h : Trace V) → Flows h → Fits start h → Along (ended h) (served start.stage h) (stage start.stage h) (waiting h)
+pub along : {V : Type 0} (start : Start V) (h : Trace V) → Flows h → Fits start h → Along (ended h) (served start.stage h) (stage start.stage h) (bundles_waiting h)
 along start [] f t = refl
 along start (Sends k u c ∷ h) f t =
     let live : ended h ≡ false = f.0 in
-    let a : Along false (served start.stage h) (stage start.stage h) (waiting h) = subst (λ b. Along b (served start.stage h) (stage start.stage h) (waiting h)) live (along start h f.1 t.1) in
-    subst (λ b. Along b (after c (served start.stage h)) (stage start.stage h) (waiting (Sends k u c ∷ h))) (sym live)
+    let a : Along false (served start.stage h) (stage start.stage h) (bundles_waiting h) = subst (λ b. Along b (served start.stage h) (stage start.stage h) (bundles_waiting h)) live (along start h f.1 t.1) in
+    subst (λ b. Along b (after c (served start.stage h)) (stage start.stage h) (bundles_waiting (Sends k u c ∷ h))) (sym live)
     (subst (λ ds. Along false (after c (served start.stage h)) (stage start.stage h) ds) (sym (sent_waits (record { entry = k; epoch = heard h; content = c }) h f.1))
-    (along_push (record { entry = k; epoch = heard h; content = c }) (served start.stage h) (stage start.stage h) (waiting h) (tells_coming start u c h t.0) a))
+    (along_push (record { entry = k; epoch = heard h; content = c }) (served start.stage h) (stage start.stage h) (bundles_waiting h) (tells_coming start u c h t.0) a))
 along start (Reverts k w c ∷ h) f t =
     let live : ended h ≡ false = served_live start h f.1 t.1 t.0.serves in
-    let a : Along false (served start.stage h) (stage start.stage h) (waiting h) = subst (λ b. Along b (served start.stage h) (stage start.stage h) (waiting h)) live (along start h f.1 t.1) in
-    subst (λ b. Along b (after c (served start.stage h)) (stage start.stage h) (waiting (Reverts k w c ∷ h))) (sym live)
+    let a : Along false (served start.stage h) (stage start.stage h) (bundles_waiting h) = subst (λ b. Along b (served start.stage h) (stage start.stage h) (bundles_waiting h)) live (along start h f.1 t.1) in
+    subst (λ b. Along b (after c (served start.stage h)) (stage start.stage h) (bundles_waiting (Reverts k w c ∷ h))) (sym live)
     (subst (λ ds. Along false (after c (served start.stage h)) (stage start.stage h) ds) (sym (sent_waits (record { entry = k; epoch = heard h + 1; content = c }) h f.1))
-    (along_push (record { entry = k; epoch = heard h + 1; content = c }) (served start.stage h) (stage start.stage h) (waiting h) (back_coming (value start.initial h) c (served start.stage h) t.0.back) a))
+    (along_push (record { entry = k; epoch = heard h + 1; content = c }) (served start.stage h) (stage start.stage h) (bundles_waiting h) (back_coming (value start.initial h) c (served start.stage h) t.0.back) a))
 along start (Takes d ∷ h) f t =
     let a : Along (ended h) (served start.stage h) (stage start.stage h) (d ∷ f.0.rest) = subst (λ ds. Along (ended h) (served start.stage h) (stage start.stage h) ds) f.0.is (along start h f.1 t.1) in
     subst (λ ds. Along (ended h) (served start.stage h) (after d.content (stage start.stage h)) ds) (sym (taken_leaves d h f.0)) a.1
-along start (Ends ∷ h) f t = along_over (ended h) (served start.stage h) (stage start.stage h) (waiting h) (along start h f.1 t.1)
+along start (Ends ∷ h) f t = along_over (ended h) (served start.stage h) (stage start.stage h) (bundles_waiting h) (along start h f.1 t.1)
 along start (_ ∷ h) f t = along start h f.1 t.1
 
 -- the stage after a bundle is Coming only where it was before
@@ -99,7 +99,7 @@ coming_unwritten start (_ ∷ h) t e = coming_unwritten start h t.1 e
 
 -- the bundle that waits first brings a context only where it was never written
 pub begins_unwritten : {V : Type 0} (start : Start V) (d : Bundle (Content V)) (v : V) (h : Trace V) → Flows h → Fits start h
-    → IsFirst d (waiting h) → d.content ≡ Begins v → newest h ≡ 0
+    → IsFirst d (bundles_waiting h) → d.content ≡ Begins v → newest h ≡ 0
 begins_unwritten start d v h f t first e =
     let a : Along (ended h) (served start.stage h) (stage start.stage h) (d ∷ first.rest) = subst (λ ds. Along (ended h) (served start.stage h) (stage start.stage h) ds) first.is (along start h f t) in
     coming_unwritten start h t (subst (λ c. FromComing c (stage start.stage h)) e a.0)

@@ -3,7 +3,7 @@ use Rattle.std.proofs.Common.{◌≡◌, ℕ, ◌+◌, ◌≤◌, List, [], ◌�
 use Rattle.std.proofs.lemmas.List.{drop-drop, drop-append-le}
 use Rattle.traces.specs.Event.{Bundle, Event}
 use Rattle.traces.specs.Event.Event.{Writes, Sends, Takes, Accepts, Reverts, Ignores}
-use Rattle.traces.specs.Links.{writes, written, heard, writes_waiting, sent, taken, waiting}
+use Rattle.traces.specs.Links.{writes, written, heard, writes_waiting, bundles_sent, takes, bundles_waiting}
 use Rattle.traces.specs.Rules.{IsFirst, Flows}
 
 some_left : {X : Type 0} (n : ℕ) (xs : List X) (x : X) → IsFirst x (drop n xs) → n + 1 ≤ length xs
@@ -21,11 +21,11 @@ heard_fits (Reverts k w c ∷ h) f = some_left (heard h) (writes h) w f.0.first
 heard_fits (Ignores k w ∷ h) f = some_left (heard h) (writes h) w f.0
 heard_fits (_ ∷ h) f = heard_fits h f.1
 
-pub taken_fits : {W B : Type 0} (h : List (Event W B)) → Flows h → taken h ≤ length (sent h)
+pub taken_fits : {W B : Type 0} (h : List (Event W B)) → Flows h → takes h ≤ length (bundles_sent h)
 taken_fits [] f = omega arith
-taken_fits (Sends k u c ∷ h) f = omega (arith, length-append (sent h) (record { entry = k; epoch = heard h; content = c } ∷ []), taken_fits h f.1)
-taken_fits (Reverts k w c ∷ h) f = omega (arith, length-append (sent h) (record { entry = k; epoch = heard h + 1; content = c } ∷ []), taken_fits h f.1)
-taken_fits (Takes d ∷ h) f = some_left (taken h) (sent h) d f.0
+taken_fits (Sends k u c ∷ h) f = omega (arith, length-append (bundles_sent h) (record { entry = k; epoch = heard h; content = c } ∷ []), taken_fits h f.1)
+taken_fits (Reverts k w c ∷ h) f = omega (arith, length-append (bundles_sent h) (record { entry = k; epoch = heard h + 1; content = c } ∷ []), taken_fits h f.1)
+taken_fits (Takes d ∷ h) f = some_left (takes h) (bundles_sent h) d f.0
 taken_fits (_ ∷ h) f = taken_fits h f.1
 
 pub written_is : {W B : Type 0} (h : List (Event W B)) → written h ≡ length (writes h)
@@ -40,12 +40,12 @@ waiting_count h f = omega (arith, length-drop (heard h) (writes h), heard_fits h
 pub write_waits : {W B : Type 0} (w : W) (h : List (Event W B)) → Flows h → writes_waiting (Writes w ∷ h) ≡ writes_waiting h ++ w ∷ []
 write_waits w h f = drop-append-le (heard h) (writes h) (w ∷ []) (heard_fits h f)
 
-pub sent_waits : {W B : Type 0} (d : Bundle B) (h : List (Event W B)) → Flows h → drop (taken h) (sent h ++ d ∷ []) ≡ waiting h ++ d ∷ []
-sent_waits d h f = drop-append-le (taken h) (sent h) (d ∷ []) (taken_fits h f)
+pub sent_waits : {W B : Type 0} (d : Bundle B) (h : List (Event W B)) → Flows h → drop (takes h) (bundles_sent h ++ d ∷ []) ≡ bundles_waiting h ++ d ∷ []
+sent_waits d h f = drop-append-le (takes h) (bundles_sent h) (d ∷ []) (taken_fits h f)
 
 -- after a hear or a take the rest waits
 pub heard_leaves : {W B : Type 0} (w : W) (h : List (Event W B)) (f : IsFirst w (writes_waiting h)) → drop (heard h + 1) (writes h) ≡ f.rest
 heard_leaves w h f = without_first (heard h) (writes h) w f
 
-pub taken_leaves : {W B : Type 0} (d : Bundle B) (h : List (Event W B)) (f : IsFirst d (waiting h)) → drop (taken h + 1) (sent h) ≡ f.rest
-taken_leaves d h f = without_first (taken h) (sent h) d f
+pub taken_leaves : {W B : Type 0} (d : Bundle B) (h : List (Event W B)) (f : IsFirst d (bundles_waiting h)) → drop (takes h + 1) (bundles_sent h) ≡ f.rest
+taken_leaves d h f = without_first (takes h) (bundles_sent h) d f

@@ -20,13 +20,17 @@ Trace V = List (FieldEvent V)
 -- how the field is found in a write, and in a bundle
 pub record Look (W B V : Type 0) : Type 0 where
   pub written : W → Option V
-  pub told : B → Content V
+  pub found_after_event : B → Content V
 
 abbrev pub bundle_for : {B V : Type 0} → (B → Content V) → Bundle B → Bundle (Content V)
-bundle_for told d = record { entry = d.entry; epoch = d.epoch; content = told d.content }
+bundle_for found_after_event d = record {
+  entry = d.entry;
+  epoch = d.epoch;
+  content = found_after_event d.content;
+}
 
--- a hear that sends something back: reverted for a field that was written and is given back, and for all others
--- accepted, with a bundle sent in the same entry
+-- a hear that sends something back: reverted for a field that was written and is given back, and for all
+-- others accepted, with a bundle sent in the same entry
 abbrev pub reverted_for : {V : Type 0} → ℕ → Option V → Content V → Trace V → Trace V
 reverted_for k (Some v) (Gives back) h = Reverts k (Some v) (Gives back) ∷ h
 reverted_for k w c h = Sends k None c ∷ Accepts k w ∷ h
@@ -34,10 +38,10 @@ reverted_for k w c h = Sends k None c ∷ Accepts k w ∷ h
 -- one event of the process, for the field, over what was before
 abbrev pub event_for : {W B V : Type 0} → Look W B V → Event W B → Trace V → Trace V
 event_for look (Writes w) h = Writes (look.written w) ∷ h
-event_for look (Sends k u c) h = Sends k (look.written u) (look.told c) ∷ h
-event_for look (Takes d) h = Takes (bundle_for look.told d) ∷ h
+event_for look (Sends k u c) h = Sends k (look.written u) (look.found_after_event c) ∷ h
+event_for look (Takes d) h = Takes (bundle_for look.found_after_event d) ∷ h
 event_for look (Accepts k w) h = Accepts k (look.written w) ∷ h
-event_for look (Reverts k w c) h = reverted_for k (look.written w) (look.told c) h
+event_for look (Reverts k w c) h = reverted_for k (look.written w) (look.found_after_event c) h
 event_for look (Ignores k w) h = Ignores k (look.written w) ∷ h
 event_for look (Changes k u) h = Changes k (look.written u) ∷ h
 event_for look Ends h = Ends ∷ h

@@ -2,10 +2,11 @@
 use Rattle.std.specs.Prelude.{ℕ, ◌≡◌, ◌≤◌, ◌<◌, ◌⊎◌, false, Option, None, Some, List, [], ◌∷◌, map}
 use Rattle.traces.specs.Event.{Bundle, Event}
 use Rattle.traces.specs.Event.Event.{Sends, Takes, Changes}
-use Rattle.traces.specs.Links.{writes_waiting, waiting, ended}
+use Rattle.traces.specs.Links.{writes_waiting, bundles_waiting, ended}
 use Rattle.traces.specs.Field.{Content, FieldEvent, Trace, Look, bundle_for, trace_for}
 use Rattle.traces.specs.Field.Content.{Gives, Removes}
-use Rattle.traces.specs.Words.{Start, value, value_at, stage, newest, base, point, view, while_held, fate, answered}
+use Rattle.traces.specs.Words.{Start, value, value_at, stage, newest, base, point, view, while_held, fate}
+use Rattle.traces.specs.Words.{answered}
 use Rattle.traces.specs.Words.Stage.{Held}
 use Rattle.traces.specs.Words.Fate.{Reverted}
 use Rattle.traces.specs.Replay.{replay}
@@ -23,13 +24,15 @@ PointNeverFalls V = (start : Start V) (e : FieldEvent V) (h : Trace V) → Keeps
 
 -- with both links empty, a process that wasn't ended shows the parent's value of a context that it holds
 abbrev pub QuietShowsTheParent : Type 0 → Type 0
-QuietShowsTheParent V = (start : Start V) (h : Trace V) → Keeps start h → ended h ≡ false → stage start.stage h ≡ Held →
-    writes_waiting h ≡ [] → waiting h ≡ [] → replay start h ≡ Some (value start.initial h)
+QuietShowsTheParent V = (start : Start V) (h : Trace V) → Keeps start h → ended h ≡ false →
+    stage start.stage h ≡ Held →
+    writes_waiting h ≡ [] → bundles_waiting h ≡ [] → replay start h ≡ Some (value start.initial h)
 
--- at the take of the bundle that reverts the newest own write, the parent's value at the entry that sent it is shown,
--- if the context is still held
+-- at the take of the bundle that reverts the newest own write, the parent's value at the entry that sent it
+-- is shown, if the context is still held
 abbrev pub RevertTakenShowsTheParent : Type 0 → Type 0
-RevertTakenShowsTheParent V = (start : Start V) (d : Bundle (Content V)) (h : Trace V) → Keeps start (Takes d ∷ h) →
+RevertTakenShowsTheParent V = (start : Start V) (d : Bundle (Content V)) (h : Trace V) →
+    Keeps start (Takes d ∷ h) →
     fate (newest h) h ≡ Reverted d.entry → stage start.stage (Takes d ∷ h) ≡ Held →
     replay start (Takes d ∷ h) ≡ Some (value_at start.initial d.entry h)
 
@@ -56,23 +59,28 @@ ChangedTo k v (_ ∷ h) = ChangedTo k v h
 
 -- a change of others behind the point stands in a waiting bundle, unless a removal waits
 abbrev pub ChangesBehindThePointWait : Type 0 → Type 0
-ChangesBehindThePointWait V = (start : Start V) (k : ℕ) (v : V) (h : Trace V) → Keeps start h → ended h ≡ false → stage start.stage h ≡ Held →
-    ChangedTo k v h → point h < k → Stands k (Gives v) (waiting h) ⊎ RemovalStands (waiting h)
+ChangesBehindThePointWait V = (start : Start V) (k : ℕ) (v : V) (h : Trace V) → Keeps start h →
+    ended h ≡ false → stage start.stage h ≡ Held →
+    ChangedTo k v h → point h < k → Stands k (Gives v) (bundles_waiting h) ⊎ RemovalStands (bundles_waiting h)
 
--- a reverted own write that isn't answered has its revert in the waiting bundle of its entry: the parent's value there
+-- a reverted own write that isn't answered has its revert in the waiting bundle of its entry: the parent's
+-- value there
 abbrev pub RevertsWait : Type 0 → Type 0
-RevertsWait V = (start : Start V) (n k : ℕ) (h : Trace V) → Keeps start h → fate n h ≡ Reverted k → answered start.stage n h ≡ false →
-    Stands k (Gives (value_at start.initial k h)) (waiting h)
+RevertsWait V = (start : Start V) (n k : ℕ) (h : Trace V) → Keeps start h → fate n h ≡ Reverted k →
+    answered start.stage n h ≡ false →
+    Stands k (Gives (value_at start.initial k h)) (bundles_waiting h)
 
--- what a field's trace has of the process's events: it keeps the rules of links and entries, and what waits on its
--- links is what waits on the process's, looked into
+-- what a field's trace has of the process's events: it keeps the rules of links and entries, and what waits
+-- on its links is what waits on the process's, looked into
 pub record Projected {W B V : Type 0} (look : Look W B V) (h : List (Event W B)) : Type 0 where
   pub flows : Flows (trace_for look h)
   pub ordered : Ordered (trace_for look h)
   pub writes_wait : writes_waiting (trace_for look h) ≡ map look.written (writes_waiting h)
-  pub bundles_wait : waiting (trace_for look h) ≡ map (bundle_for look.told) (waiting h)
+  pub bundles_wait : bundles_waiting (trace_for look h) ≡ map (bundle_for look.found_after_event)
+      (bundles_waiting h)
   pub same_end : ended (trace_for look h) ≡ ended h
 
 -- the projection keeps the rules, whatever the contents and the field
 abbrev pub ProjectionKeepsTheRules : Type 0 → Type 0 → Type 0 → Type 0
-ProjectionKeepsTheRules W B V = (look : Look W B V) (h : List (Event W B)) → Flows h → Rises h → Projected look h
+ProjectionKeepsTheRules W B V = (look : Look W B V) (h : List (Event W B)) → Flows h → Rises h →
+    Projected look h

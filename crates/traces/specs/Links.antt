@@ -28,21 +28,22 @@ abbrev pub writes_waiting : {W B : Type 0} → List (Event W B) → List W
 writes_waiting h = drop (heard h) (writes h)
 
 -- the bundles that the parent sent the process, in order
-abbrev pub sent : {W B : Type 0} → List (Event W B) → List (Bundle B)
-sent [] = []
-sent (Sends k u c ∷ h) = sent h ++ record { entry = k; epoch = heard h; content = c } ∷ []
-sent (Reverts k w c ∷ h) = sent h ++ record { entry = k; epoch = heard h + 1; content = c } ∷ []
-sent (_ ∷ h) = sent h
+abbrev pub bundles_sent : {W B : Type 0} → List (Event W B) → List (Bundle B)
+bundles_sent [] = []
+bundles_sent (Sends k u c ∷ h) = bundles_sent h ++ record { entry = k; epoch = heard h; content = c } ∷ []
+bundles_sent (Reverts k w c ∷ h) = bundles_sent h ++ record { entry = k; epoch = heard h + 1; content = c } ∷
+    []
+bundles_sent (_ ∷ h) = bundles_sent h
 
 -- how many bundles the process took
-abbrev pub taken : {W B : Type 0} → List (Event W B) → ℕ
-taken [] = 0
-taken (Takes d ∷ h) = taken h + 1
-taken (_ ∷ h) = taken h
+abbrev pub takes : {W B : Type 0} → List (Event W B) → ℕ
+takes [] = 0
+takes (Takes d ∷ h) = takes h + 1
+takes (_ ∷ h) = takes h
 
 -- the bundles that wait to be taken
-abbrev pub waiting : {W B : Type 0} → List (Event W B) → List (Bundle B)
-waiting h = drop (taken h) (sent h)
+abbrev pub bundles_waiting : {W B : Type 0} → List (Event W B) → List (Bundle B)
+bundles_waiting h = drop (takes h) (bundles_sent h)
 
 -- the last entry that sent the process a bundle, or 0
 abbrev pub last_sent : {W B : Type 0} → List (Event W B) → ℕ

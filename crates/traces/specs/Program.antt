@@ -1,11 +1,13 @@
 -- What the plain program's events are as a trace.
-use Rattle.std.specs.Prelude.{ℕ, ◌+◌, ◌==◌, nat_lt, if◌then◌else◌, Bool, true, false, Option, List, map, reverse}
+use Rattle.std.specs.Prelude.{ℕ, ◌+◌, ◌==◌, nat_lt, if◌then◌else◌, Bool, true, false, Option, List, map}
+use Rattle.std.specs.Prelude.{reverse}
 use Rattle.traces.specs.Event.{Bundle}
 use Rattle.traces.specs.Event.Event.{Writes, Sends, Takes, Accepts, Reverts, Ignores, Changes, Ends, Rests}
 use Rattle.traces.specs.Field.{Content, FieldEvent, Trace}
 use Rattle.traces.specs.Field.Content.{Nothing, Gives, Begins, Removes}
 use Rattle.traces.specs.Links.{written, heard}
-use Rattle.traces.specs.Words.{Start, Stage, Fate, while_held, renewed, or_else, newest, own_value, base, accepted_at, stage, fate, took, is_gone, view}
+use Rattle.traces.specs.Words.{Start, Stage, Fate, while_held, renewed, or_else, newest, own_value, base}
+use Rattle.traces.specs.Words.{accepted_at, stage, fate, took, is_gone, view}
 use Rattle.traces.specs.Words.Fate.{Unheard, Accepted, Reverted, Ignored}
 use Rattle.traces.specs.Words.Stage.{Coming, Held, Gone}
 use Rattle.traces.specs.Replay.{taken_over, written_over, is_obsolete}
@@ -53,10 +55,17 @@ abbrev pub shown_from : plain.Start.Start → Option ℕ
 shown_from s = while_held (stage_of s.stage) s.initial
 
 -- what a process keeps after one event more
-abbrev pub stepped : plain.Event.Event → Epochs → Epochs
-stepped (events.Writes w) e = record { shown = written_over w e.shown; field = renewed w (e.last + 1) e.field; last = e.last + 1 }
-stepped (events.Takes d) e = record e { shown = taken_over (content_of d.content) (is_obsolete e.field (bundle_of d)) e.shown }
-stepped _ e = e
+abbrev pub epochs_after : plain.Event.Event → Epochs → Epochs
+epochs_after (events.Writes w) e = record {
+  shown = written_over w e.shown;
+  field = renewed w (e.last + 1) e.field;
+  last = e.last + 1;
+}
+epochs_after (events.Takes d) e = record e {
+  shown = taken_over (content_of d.content)
+      (is_obsolete e.field (bundle_of d)) e.shown;
+}
+epochs_after _ e = e
 
 abbrev pub fate_of : looking.Fate.Fate → Fate
 fate_of fates.Unheard = Unheard
@@ -71,11 +80,15 @@ stage_after contents.Removes s = stages.Gone
 stage_after _ s = s
 
 -- what is found after one event more
-abbrev pub told : plain.Event.Event → looking.Found.Found → looking.Found.Found
-told (events.Writes w) f = record f { written = f.written + 1; newest = renewed w (f.written + 1) f.newest; own_value = or_else w f.own_value }
-told (events.Takes d) f = record f { base = d.entry; stage = stage_after d.content f.stage }
-told (events.Accepts k w) f = record f { accepted_at = renewed w k f.accepted_at }
-told _ f = f
+abbrev pub found_after_event : plain.Event.Event → looking.Found.Found → looking.Found.Found
+found_after_event (events.Writes w) f = record f {
+  written = f.written + 1;
+  newest = renewed w (f.written + 1) f.newest;
+  own_value = or_else w f.own_value;
+}
+found_after_event (events.Takes d) f = record f { base = d.entry; stage = stage_after d.content f.stage }
+found_after_event (events.Accepts k w) f = record f { accepted_at = renewed w k f.accepted_at }
+found_after_event _ f = f
 
 abbrev pub stage_named : Stage → plain.Stage.Stage
 stage_named Coming = stages.Coming

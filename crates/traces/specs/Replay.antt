@@ -1,6 +1,6 @@
--- What a process does with its epochs. It keeps the value, and for the field the number of its newest write to it; it
--- is never told what became of a write. A bundle tells how many of its writes the parent had heard: where the newest
--- write to the field isn't among them, the field of the bundle is obsolete.
+-- What a process does with its epochs. It keeps the value, and for the field the number of its newest write
+-- to it; it is never told what became of a write. A bundle tells how many of its writes the parent had heard:
+-- where the newest write to the field isn't among them, the field of the bundle is obsolete.
 use Rattle.std.specs.Prelude.{ℕ, nat_lt, Bool, true, false, Option, None, Some, [], ◌∷◌}
 use Rattle.traces.specs.Event.{Bundle}
 use Rattle.traces.specs.Event.Event.{Writes, Takes}

@@ -2,7 +2,7 @@
 use Rattle.std.specs.Prelude.{ℕ, ◌≡◌, ◌≤◌, ◌<◌, true, false, Option, None, Some, is_some, List, [], ◌∷◌}
 use Rattle.traces.specs.Event.{Event}
 use Rattle.traces.specs.Event.Event.{Writes, Sends, Takes, Accepts, Reverts, Ignores, Changes}
-use Rattle.traces.specs.Links.{writes_waiting, waiting, last_sent, now, ended}
+use Rattle.traces.specs.Links.{writes_waiting, bundles_waiting, last_sent, now, ended}
 use Rattle.traces.specs.Field.{Content, FieldEvent, Trace}
 use Rattle.traces.specs.Field.Content.{Nothing, Gives, Begins, Removes}
 use Rattle.traces.specs.Words.{Start, or_else, value, stage, served}
@@ -21,7 +21,7 @@ pub record HeardAlive {W B : Type 0} (write : W) (h : List (Event W B)) : Type 0
 -- what is taken or heard is what waited first, and an ended process is sent nothing more
 abbrev pub Flow : {W B : Type 0} → Event W B → List (Event W B) → Type 0
 Flow (Sends k u c) h = ended h ≡ false
-Flow (Takes d) h = IsFirst d (waiting h)
+Flow (Takes d) h = IsFirst d (bundles_waiting h)
 Flow (Accepts k w) h = IsFirst w (writes_waiting h)
 Flow (Reverts k w c) h = HeardAlive w h
 Flow (Ignores k w) h = IsFirst w (writes_waiting h)
@@ -68,8 +68,8 @@ abbrev pub Where : {V : Type 0} → Option V → Type 0 → Type 0
 Where None P = Unit {0}
 Where (Some v) P = P
 
--- a bundle gives each change while the parent serves the context, and a change that it doesn't give comes when the
--- parent does not; a context comes once, with the parent's value
+-- a bundle gives each change while the parent serves the context, and a change that it doesn't give comes
+-- when the parent does not; a context comes once, with the parent's value
 abbrev pub Tells : {V : Type 0} → Start V → Option V → Content V → Trace V → Type 0
 Tells start u Nothing h = Where u (served start.stage h ≡ Held → ⊥)
 Tells start u (Gives v) h = (u ≡ Some v) × (served start.stage h ≡ Held)
@@ -77,7 +77,8 @@ Tells start u (Begins v) h = (or_else u (value start.initial h) ≡ v) × (serve
 Tells start u Removes h = Unit {0}
 
 -- a revert is of a write to the field, and gives the parent's value back
-pub record GivesBack {V : Type 0} (start : Start V) (write : Option V) (content : Content V) (h : Trace V) : Type 0 where
+pub record GivesBack {V : Type 0} (start : Start V) (write : Option V) (content : Content V)
+    (h : Trace V) : Type 0 where
   pub of_write : is_some write ≡ true
   pub back : content ≡ Gives (value start.initial h)
   pub serves : served start.stage h ≡ Held

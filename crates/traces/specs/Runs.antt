@@ -16,8 +16,8 @@ abbrev pub late : Start ℕ
 late = record { initial = 0; stage = Coming }
 
 -- a process takes the bundle of this entry, which the parent sent when it had heard so many of its writes
-abbrev pub takes : ℕ → ℕ → Content ℕ → FieldEvent ℕ
-takes entry epoch content = Takes (record { entry = entry; epoch = epoch; content = content })
+abbrev pub take_of : ℕ → ℕ → Content ℕ → FieldEvent ℕ
+take_of entry epoch content = Takes (record { entry = entry; epoch = epoch; content = content })
 
 -- the trace keeps the rules, and after it the process shows v of the field, by its epochs and by the model
 pub record Shows (start : Start ℕ) (trace : List (FieldEvent ℕ)) (v : ℕ) : Type 0 where
@@ -38,18 +38,22 @@ pub record ThreeMoments : Type 0 where
   pub writer_heard : Shows from_start (Writes (Some 2) ∷ Accepts 2 (Some 2) ∷ []) 2
   pub parent_heard : value 0 (reverse reader) ≡ 2
   pub reader_before : Shows from_start reader 0
-  pub reader_took : Shows from_start (Sends 2 (Some 2) (Gives 2) ∷ takes 2 0 (Gives 2) ∷ []) 2
+  pub reader_took : Shows from_start (Sends 2 (Some 2) (Gives 2) ∷ take_of 2 0 (Gives 2) ∷ []) 2
 
 -- a write that crosses the parent's: the process keeps its own, and the parent hears it last
 pub record Crossing : Type 0 where
-  pub writer : Shows from_start (Sends 1 (Some 1) (Gives 1) ∷ Writes (Some 2) ∷ takes 1 0 (Gives 1) ∷ []) 2
-  pub writer_heard : Shows from_start (Sends 1 (Some 1) (Gives 1) ∷ Writes (Some 2) ∷ takes 1 0 (Gives 1) ∷ Accepts 4 (Some 2) ∷ []) 2
-  pub reader : Shows from_start (Sends 1 (Some 1) (Gives 1) ∷ Sends 4 (Some 2) (Gives 2) ∷ takes 1 0 (Gives 1) ∷ takes 4 0 (Gives 2) ∷ []) 2
+  pub writer : Shows from_start (Sends 1 (Some 1) (Gives 1) ∷ Writes (Some 2) ∷ take_of 1 0 (Gives 1) ∷ []) 2
+  pub writer_heard : Shows from_start (Sends 1 (Some 1) (Gives 1) ∷ Writes (Some 2) ∷ take_of 1 0 (Gives 1) ∷
+      Accepts 4 (Some 2) ∷ []) 2
+  pub reader : Shows from_start (Sends 1 (Some 1) (Gives 1) ∷ Sends 4 (Some 2) (Gives 2) ∷
+      take_of 1 0 (Gives 1) ∷ take_of 4 0 (Gives 2) ∷ []) 2
 
 -- two writers: the one that the parent hears last has its way
 pub record TwoWriters : Type 0 where
-  pub heard_last : Shows from_start (Writes (Some 2) ∷ Sends 3 (Some 1) (Gives 1) ∷ Accepts 4 (Some 2) ∷ takes 3 0 (Gives 1) ∷ []) 2
-  pub heard_first : Shows from_start (Writes (Some 1) ∷ Accepts 3 (Some 1) ∷ Sends 4 (Some 2) (Gives 2) ∷ takes 4 1 (Gives 2) ∷ []) 2
+  pub heard_last : Shows from_start (Writes (Some 2) ∷ Sends 3 (Some 1) (Gives 1) ∷ Accepts 4 (Some 2) ∷
+      take_of 3 0 (Gives 1) ∷ []) 2
+  pub heard_first : Shows from_start (Writes (Some 1) ∷ Accepts 3 (Some 1) ∷ Sends 4 (Some 2) (Gives 2) ∷
+      take_of 4 1 (Gives 2) ∷ []) 2
 
 -- two fields in one bundle, of which the process wrote one
 pub record TwoFields : Type 0 where
@@ -61,17 +65,18 @@ given None = Nothing
 given (Some v) = Gives v
 
 abbrev pub mode_of : Look TwoFields TwoFields ℕ
-mode_of = record { written = λ w. w.mode; told = λ b. given b.mode }
+mode_of = record { written = λ w. w.mode; found_after_event = λ b. given b.mode }
 
 abbrev pub agent_of : Look TwoFields TwoFields ℕ
-agent_of = record { written = λ w. w.agent; told = λ b. given b.agent }
+agent_of = record { written = λ w. w.agent; found_after_event = λ b. given b.agent }
 
 abbrev pub parents : TwoFields
 parents = record { mode = Some 1; agent = Some 7 }
 
 abbrev pub partly_obsolete : List (Event TwoFields TwoFields)
 partly_obsolete =
-    Takes (record { entry = 1; epoch = 0; content = parents }) ∷ Writes (record { mode = Some 3; agent = None }) ∷ Sends 1 parents parents ∷ []
+    Takes (record { entry = 1; epoch = 0; content = parents }) ∷
+    Writes (record { mode = Some 3; agent = None }) ∷ Sends 1 parents parents ∷ []
 
 pub record PartlyObsolete : Type 0 where
   pub mode : Shows from_start (reverse (trace_for mode_of partly_obsolete)) 3
@@ -80,15 +85,19 @@ pub record PartlyObsolete : Type 0 where
 -- a revert: the process shows its write until it takes the bundle of the entry that reverted it
 pub record Revert : Type 0 where
   pub before : Shows from_start (Writes (Some 1) ∷ Sends 2 None Nothing ∷ Reverts 3 (Some 1) (Gives 0) ∷ []) 1
-  pub took_one : Shows from_start (Writes (Some 1) ∷ Sends 2 None Nothing ∷ Reverts 3 (Some 1) (Gives 0) ∷ takes 2 0 Nothing ∷ []) 1
-  pub took_both : Shows from_start (Writes (Some 1) ∷ Sends 2 None Nothing ∷ Reverts 3 (Some 1) (Gives 0) ∷ takes 2 0 Nothing ∷ takes 3 1 (Gives 0) ∷ []) 0
+  pub took_one : Shows from_start (Writes (Some 1) ∷ Sends 2 None Nothing ∷ Reverts 3 (Some 1) (Gives 0) ∷
+      take_of 2 0 Nothing ∷ []) 1
+  pub took_both : Shows from_start (Writes (Some 1) ∷ Sends 2 None Nothing ∷ Reverts 3 (Some 1) (Gives 0) ∷
+      take_of 2 0 Nothing ∷ take_of 3 1 (Gives 0) ∷ []) 0
 
 -- a revert of a write that the process wrote over: the newer one is shown until its own revert is taken
 abbrev pub written_again : List (FieldEvent ℕ)
-written_again = Writes (Some 1) ∷ Sends 2 None Nothing ∷ Reverts 3 (Some 1) (Gives 0) ∷ Writes (Some 2) ∷ takes 2 0 Nothing ∷ takes 3 1 (Gives 0) ∷ []
+written_again = Writes (Some 1) ∷ Sends 2 None Nothing ∷ Reverts 3 (Some 1) (Gives 0) ∷ Writes (Some 2) ∷
+    take_of 2 0 Nothing ∷ take_of 3 1 (Gives 0) ∷ []
 
 abbrev pub reverted_again : List (FieldEvent ℕ)
-reverted_again = Writes (Some 1) ∷ Sends 2 None Nothing ∷ Reverts 3 (Some 1) (Gives 0) ∷ Writes (Some 2) ∷ takes 2 0 Nothing ∷ takes 3 1 (Gives 0) ∷ Reverts 7 (Some 2) (Gives 0) ∷ takes 7 2 (Gives 0) ∷ []
+reverted_again = Writes (Some 1) ∷ Sends 2 None Nothing ∷ Reverts 3 (Some 1) (Gives 0) ∷ Writes (Some 2) ∷
+    take_of 2 0 Nothing ∷ take_of 3 1 (Gives 0) ∷ Reverts 7 (Some 2) (Gives 0) ∷ take_of 7 2 (Gives 0) ∷ []
 
 pub record RevertWrittenOver : Type 0 where
   pub first_revert : Shows from_start written_again 2
@@ -96,13 +105,15 @@ pub record RevertWrittenOver : Type 0 where
 
 -- a late subscriber: the context comes with the parent's values, and later changes follow
 abbrev pub late_muted : List (FieldEvent ℕ)
-late_muted = Changes 1 (Some 1) ∷ Sends 3 None (Begins 1) ∷ Sends 4 None Nothing ∷ takes 3 0 (Begins 1) ∷ []
+late_muted = Changes 1 (Some 1) ∷ Sends 3 None (Begins 1) ∷ Sends 4 None Nothing ∷ take_of 3 0 (Begins 1) ∷ []
 
 abbrev pub late_mode : List (FieldEvent ℕ)
-late_mode = Changes 1 None ∷ Sends 3 None (Begins 0) ∷ Sends 4 (Some 2) (Gives 2) ∷ takes 3 0 (Begins 0) ∷ []
+late_mode = Changes 1 None ∷ Sends 3 None (Begins 0) ∷ Sends 4 (Some 2) (Gives 2) ∷ take_of 3 0 (Begins 0) ∷
+    []
 
 abbrev pub late_mode_both : List (FieldEvent ℕ)
-late_mode_both = Changes 1 None ∷ Sends 3 None (Begins 0) ∷ Sends 4 (Some 2) (Gives 2) ∷ takes 3 0 (Begins 0) ∷ takes 4 0 (Gives 2) ∷ []
+late_mode_both = Changes 1 None ∷ Sends 3 None (Begins 0) ∷ Sends 4 (Some 2) (Gives 2) ∷
+    take_of 3 0 (Begins 0) ∷ take_of 4 0 (Gives 2) ∷ []
 
 pub record LateSubscriber : Type 0 where
   pub not_yet : replay late (Sends 3 None (Begins 1) ∷ Changes 1 (Some 1) ∷ []) ≡ None

@@ -1,6 +1,7 @@
--- What a field's trace says by looking back: the parent's value after an entry, the point, the fate of an own write,
--- the stage of the context, and the view.
-use Rattle.std.specs.Prelude.{ℕ, ◌+◌, ◌==◌, nat_lt, max, Bool, true, false, not, ◌&&◌, ◌||◌, if◌then◌else◌, Option, None, Some, [], ◌∷◌}
+-- What a field's trace says by looking back: the parent's value after an entry, the point, the fate of an own
+-- write, the stage of the context, and the view.
+use Rattle.std.specs.Prelude.{ℕ, ◌+◌, ◌==◌, nat_lt, max, Bool, true, false, not, ◌&&◌, ◌||◌, if◌then◌else◌}
+use Rattle.std.specs.Prelude.{Option, None, Some, [], ◌∷◌}
 use Rattle.traces.specs.Event.Event.{Writes, Sends, Takes, Accepts, Reverts, Ignores, Changes, Ends}
 use Rattle.traces.specs.Links.{heard, written}
 use Rattle.traces.specs.Field.{Content, Trace}
@@ -38,9 +39,12 @@ value initial (_ ∷ h) = value initial h
 -- the parent's value after entry k
 abbrev pub value_at : {V : Type 0} → V → ℕ → Trace V → V
 value_at initial k [] = initial
-value_at initial k (Sends j u c ∷ h) = if nat_lt k j then value_at initial k h else or_else u (value_at initial k h)
-value_at initial k (Accepts j w ∷ h) = if nat_lt k j then value_at initial k h else or_else w (value_at initial k h)
-value_at initial k (Changes j u ∷ h) = if nat_lt k j then value_at initial k h else or_else u (value_at initial k h)
+value_at initial k (Sends j u c ∷ h) = if nat_lt k j then value_at initial k h
+    else or_else u (value_at initial k h)
+value_at initial k (Accepts j w ∷ h) = if nat_lt k j then value_at initial k h
+    else or_else w (value_at initial k h)
+value_at initial k (Changes j u ∷ h) = if nat_lt k j then value_at initial k h
+    else or_else u (value_at initial k h)
 value_at initial k (_ ∷ h) = value_at initial k h
 
 -- the stage after a bundle that holds c
@@ -116,7 +120,8 @@ abbrev pub is_gone : Stage → Bool
 is_gone Gone = true
 is_gone _ = false
 
--- what answers a write of this fate: accepted at once, reverted once the revert was taken, ignored once the context is gone
+-- what answers a write of this fate: accepted at once, reverted once the revert was taken, ignored once the
+-- context is gone
 abbrev pub is_answer : {V : Type 0} → Stage → Trace V → Fate → Bool
 is_answer s h Unheard = false
 is_answer s h (Accepted k) = true
@@ -133,7 +138,8 @@ unanswered s h = nat_lt 0 (newest h) && not (answered s (newest h) h)
 
 -- the view: the newest own write where it isn't answered, else the parent's value at the point
 abbrev pub view : {V : Type 0} → Start V → Trace V → V
-view start h = if unanswered start.stage h then own_value start.initial h else value_at start.initial (point h) h
+view start h = if unanswered start.stage h then own_value start.initial h
+    else value_at start.initial (point h) h
 
 -- what is to be shown: the view exactly while the context is held
 abbrev pub while_held : {V : Type 0} → Stage → V → Option V

@@ -1,11 +1,12 @@
 ghost use Rattle.std.specs.Prelude.{◌≡◌, ◌<◌, length};
-ghost use Rattle.traces.specs.Program.{content_of, bundle_of, event_of, start_of, trace_of, shown_from, stepped};
+ghost use Rattle.traces.specs.Program.{content_of, bundle_of, event_of, start_of, trace_of, shown_from};
+ghost use Rattle.traces.specs.Program.{epochs_after};
 ghost use Rattle.traces.specs.Replay.{replay, taken_over, written_over, is_obsolete};
 
 use crate::events::{Bundle, Content, Event, Stage, Start};
 
-/// What a process keeps for a field: what it shows, the number of its newest write to the field, and the number of its
-/// last write.
+/// What a process keeps for a field: what it shows, the number of its newest write to the field, and the
+/// number of its last write.
 #[derive(Clone, Copy, Debug, PartialEq, Eq)]
 pub struct Epochs {
     pub shown: Option<u32>,
@@ -43,7 +44,7 @@ fn after_bundle(shown: Option<u32>, content: Content, obsolete: bool) -> Option<
 // A write takes the next number, and is shown at once.
 fn written(epochs: Epochs, write: Option<u32>) -> Epochs
     requires { epochs.last < usize.MAX }
-    ensures { result ≡ stepped (Event.Writes write) epochs }
+    ensures { result ≡ epochs_after (Event.Writes write) epochs }
 {
     let last = epochs.last + 1;
     let field = match write {
@@ -56,7 +57,7 @@ fn written(epochs: Epochs, write: Option<u32>) -> Epochs
 
 // A bundle's field is left out where the parent had not heard the newest write to it.
 fn taken(epochs: Epochs, bundle: Bundle) -> Epochs
-    ensures { result ≡ stepped (Event.Takes bundle) epochs }
+    ensures { result ≡ epochs_after (Event.Takes bundle) epochs }
 {
     let obsolete = bundle.epoch < epochs.field;
     let shown = after_bundle(epochs.shown, bundle.content, obsolete);
@@ -65,7 +66,7 @@ fn taken(epochs: Epochs, bundle: Bundle) -> Epochs
 
 fn step(epochs: Epochs, event: Event) -> Epochs
     requires { epochs.last < usize.MAX }
-    ensures { result ≡ stepped event epochs }
+    ensures { result ≡ epochs_after event epochs }
 {
     match event {
         Event::Writes(write) => written(epochs, write),
@@ -83,8 +84,8 @@ fn started(start: Start) -> Option<u32>
     }
 }
 
-/// What a process shows of a field after these events, the oldest first: it keeps one epoch for the field, and leaves out
-/// of a bundle what is older than that. None where it doesn't have the context.
+/// What a process shows of a field after these events, the oldest first: it keeps one epoch for the field,
+/// and leaves out of a bundle what is older than that. None where it doesn't have the context.
 pub fn replay(start: Start, events: &[Event]) -> Option<u32>
     ensures { result ≡ replay (start_of start) (trace_of events.now) }
 {

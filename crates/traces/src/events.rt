@@ -20,8 +20,8 @@ pub struct Bundle {
     pub content: Content,
 }
 
-/// One event of a process, as one field of one context sees it. A write or a change has a value for the field, or none;
-/// an entry is given by its number.
+/// One event of a process, as one field of one context sees it. A write or a change has a value for the
+/// field, or none; an entry is given by its number.
 #[derive(Clone, Copy, Debug, PartialEq, Eq)]
 pub enum Event {
     Writes(Option<u32>),

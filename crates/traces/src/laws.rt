@@ -1,8 +1,10 @@
-ghost use Rattle.traces.specs.Laws.{ReplayShowsTheView, PointNeverFalls, ChangesBehindThePointWait, ProjectionKeepsTheRules, QuietShowsTheParent, RevertTakenShowsTheParent, RevertsWait};
+ghost use Rattle.traces.specs.Laws.{ReplayShowsTheView, PointNeverFalls, ChangesBehindThePointWait};
+ghost use Rattle.traces.specs.Laws.{ProjectionKeepsTheRules, QuietShowsTheParent, RevertTakenShowsTheParent};
+ghost use Rattle.traces.specs.Laws.{RevertsWait};
 ghost use Rattle.traces.specs.Runs.{WorkedRuns};
 
-/// A process shows of a field its newest own write not yet answered, else the parent's value at the point; and it
-/// shows something exactly while it holds the context.
+/// A process shows of a field its newest own write not yet answered, else the parent's value at the point;
+/// and it shows something exactly while it holds the context.
 pub fn replay_shows_the_view<V>()
     ensures { ReplayShowsTheView V }
 {}
@@ -17,7 +19,8 @@ pub fn quiet_shows_the_parent<V>()
     ensures { QuietShowsTheParent V }
 {}
 
-/// The take of the bundle that reverts the newest own write shows the parent's value at the entry that sent it.
+/// The take of the bundle that reverts the newest own write shows the parent's value at the entry that sent
+/// it.
 pub fn revert_taken_shows_the_parent<V>()
     ensures { RevertTakenShowsTheParent V }
 {}
@@ -37,8 +40,8 @@ pub fn changes_behind_the_point_wait<V>()
     ensures { ChangesBehindThePointWait V }
 {}
 
-/// The trace of a field, got from a process's events by looking into contents, keeps the rules of links and entries
-/// where the events do; and what waits on its links is what waits on the process's, looked into.
+/// The trace of a field, got from a process's events by looking into contents, keeps the rules of links and
+/// entries where the events do; and what waits on its links is what waits on the process's, looked into.
 pub fn projection_keeps_the_rules<W, B, V>()
     ensures { ProjectionKeepsTheRules W B V }
 {}

@@ -1,11 +1,10 @@
-//! The optimistic view, proved once over what one process sees of a journal. A process that writes at once and keeps one
-//! epoch for a field shows exactly its newest write not yet answered, else the parent's value at a point that never goes
-//! back. Each process, context and field comes to it by one projection.
-//! Promised upward are the definitions in specs/ (events, links, words, rules, replay), the laws over every trace that
-//! keeps the rules, each the clause of a function of `laws`, and plain functions that compute the replay and the view of
-//! one field from its events, for worked runs.
-//! Nothing here knows a context, a bundle's parts or a step, keeps a state between calls, or promises that anything is
-//! delivered.
+//! The optimistic view, proved once over what one process sees of a journal. A process that writes at once
+//! and keeps one epoch for a field shows exactly its newest write not yet answered, else the parent's value
+//! at a point that never goes back. Each process, context and field comes to it by one projection. Promised
+//! upward are the definitions in specs/ (events, links, words, rules, replay), the laws over every trace that
+//! keeps the rules, each the clause of a function of `laws`, and plain functions that compute the replay and
+//! the view of one field from its events, for worked runs. Nothing here knows a context, a bundle's parts or
+//! a step, keeps a state between calls, or promises that anything is delivered.
 #![tactic(auto)]
 
 mod epochs;

@@ -1,6 +1,8 @@
 ghost use Rattle.std.specs.Prelude.{◌≡◌, ◌<◌};
 ghost use Rattle.traces.specs.Words.{fate, took, value_at, view};
-ghost use Rattle.traces.specs.Program.{start_of, stage_of, stage_after, trace_of, fate_of, told, found_after, heard_as, judged, is_taken, changed_until, valued, answers, viewed};
+ghost use Rattle.traces.specs.Program.{start_of, stage_of, stage_after, trace_of, fate_of, found_after_event};
+ghost use Rattle.traces.specs.Program.{found_after};
+ghost use Rattle.traces.specs.Program.{heard_as, judged, is_taken, changed_until, valued, answers, viewed};
 
 use crate::events::{Bundle, Content, Event, Stage, Start};
 
@@ -43,7 +45,7 @@ fn stage_after(content: Content, stage: Stage) -> Stage
 
 fn wrote(found: Found, value: u32) -> Found
     requires { found.written < usize.MAX }
-    ensures { result ≡ told (Event.Writes (Some value)) found }
+    ensures { result ≡ found_after_event (Event.Writes (Some value)) found }
 {
     let written = found.written + 1;
     Found {
@@ -56,7 +58,7 @@ fn wrote(found: Found, value: u32) -> Found
 
 fn tell(found: Found, event: Event) -> Found
     requires { found.written < usize.MAX }
-    ensures { result ≡ told event found }
+    ensures { result ≡ found_after_event event found }
 {
     match event {
         Event::Writes(None) => Found {
@@ -181,8 +183,8 @@ pub fn value_at(initial: u32, entry: usize, events: &[Event]) -> u32
     value
 }
 
-// Whether the fate of an own write answers it: accepted at once, reverted once the revert was taken, ignored once the
-// context is gone.
+// Whether the fate of an own write answers it: accepted at once, reverted once the revert was taken, ignored
+// once the context is gone.
 fn is_answer(fate: Fate, stage: Stage, events: &[Event]) -> bool
     ensures { result ≡ answers (fate_of fate) (stage_of stage) (trace_of events.now) }
 {
@@ -208,8 +210,8 @@ fn seen(start: Start, found: Found, events: &[Event]) -> u32
     }
 }
 
-/// What a process is to show of a field after these events, the oldest first: its newest own write where that isn't
-/// answered, else the parent's value at the point. None where it doesn't hold the context.
+/// What a process is to show of a field after these events, the oldest first: its newest own write where that
+/// isn't answered, else the parent's value at the point. None where it doesn't hold the context.
 pub fn view(start: Start, events: &[Event]) -> Option<u32>
     ensures { result ≡ viewed (start_of start) (trace_of events.now) }
 {

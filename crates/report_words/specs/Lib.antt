@@ -1,4 +1,5 @@
 pub mod Pieces
 pub mod Refusals
 pub mod Notes
+pub mod Values
 pub mod Words

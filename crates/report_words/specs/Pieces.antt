@@ -9,10 +9,10 @@ use Rattle.field_table.specs.Field.{fields, name}
 use Rattle.field_table.specs.FieldSet.{has}
 
 -- the pieces one after the other
-abbrev pub joined : List (List ℕ) → List ℕ
-joined [] = []
-joined (piece ∷ []) = piece
-joined (piece ∷ next ∷ pieces) = piece ++ joined (next ∷ pieces)
+abbrev pub text_of_pieces : List (List ℕ) → List ℕ
+text_of_pieces [] = []
+text_of_pieces (piece ∷ []) = piece
+text_of_pieces (piece ∷ next ∷ pieces) = piece ++ text_of_pieces (next ∷ pieces)
 
 -- a text behind a blank
 abbrev pub after_blank : List ℕ → List ℕ

@@ -11,8 +11,10 @@ use Rattle.wire_msgs.specs.declared.cause.EndCause.TheVariants as causes
 use Rattle.wire_msgs.specs.declared.refusal.Counted.{Counted}
 use Rattle.wire_msgs.specs.declared.refusal.Counted.TheVariants.{Groups, Contexts, Loads}
 use Rattle.wire_msgs.specs.declared.refusal.Refusal.{Refusal}
-use Rattle.wire_msgs.specs.declared.refusal.Refusal.TheVariants.{NoProcess, Stopped, NoContext, NotMine, Denied, NoWindow, NoActor, NoQuery, Empty, NoGroup, TooMany, NotTop}
-use Rattle.report_words.specs.Pieces.{joined, after_blank, names_text}
+use Rattle.wire_msgs.specs.declared.refusal.Refusal.TheVariants.{NoProcess, Stopped, NoContext, NotMine}
+use Rattle.wire_msgs.specs.declared.refusal.Refusal.TheVariants.{Denied, NoWindow, NoActor, NoQuery, Empty}
+use Rattle.wire_msgs.specs.declared.refusal.Refusal.TheVariants.{NoGroup, TooMany, NotTop}
+use Rattle.report_words.specs.Pieces.{text_of_pieces, after_blank, names_text}
 
 -- ---- refusals
 
@@ -57,12 +59,13 @@ detail_text (NoActor why) = after_blank (why_text why)
 detail_text NoQuery = []
 detail_text Empty = []
 detail_text NoGroup = []
-detail_text (TooMany what most) = joined (codes " " ∷ counted_text what ∷ codes " " ∷ decimal most ∷ [])
+detail_text (TooMany what most) =
+    text_of_pieces (codes " " ∷ counted_text what ∷ codes " " ∷ decimal most ∷ [])
 detail_text NotTop = []
 
 -- a refusal by its number, and what it says further
 unfoldable pub refusal_text : Refusal → List ℕ
-refusal_text why = joined (codes "refused " ∷ decimal (refusal_number why) ∷ detail_text why ∷ [])
+refusal_text why = text_of_pieces (codes "refused " ∷ decimal (refusal_number why) ∷ detail_text why ∷ [])
 
 -- ---- causes
 
@@ -74,9 +77,12 @@ id_text (Query q) = query_text q
 
 -- why a process was ended
 unfoldable pub cause_text : EndCause → List ℕ
-cause_text (causes.Denied x fields) = joined (codes "denied " ∷ context_text x ∷ names_text fields ∷ [])
-cause_text (causes.BadEpoch said due) = joined (codes "badepoch " ∷ decimal said.0 ∷ codes " " ∷ decimal due.0 ∷ [])
-cause_text (causes.BadStamp said sent) = joined (codes "badstamp " ∷ decimal said ∷ codes " " ∷ decimal sent ∷ [])
+cause_text (causes.Denied x fields) =
+    text_of_pieces (codes "denied " ∷ context_text x ∷ names_text fields ∷ [])
+cause_text (causes.BadEpoch said due) =
+    text_of_pieces (codes "badepoch " ∷ decimal said.0 ∷ codes " " ∷ decimal due.0 ∷ [])
+cause_text (causes.BadStamp said sent) =
+    text_of_pieces (codes "badstamp " ∷ decimal said ∷ codes " " ∷ decimal sent ∷ [])
 cause_text (causes.BadId id) = codes "badid " ++ id_text id
 cause_text (causes.BadPart number) = codes "badpart " ++ decimal number
 cause_text causes.Failed = codes "failed"

@@ -1,21 +1,17 @@
--- The words of a report's line: what was done, what it came to, and what a field shows.
-use Rattle.std.specs.Prelude.{ℕ, List, [], ◌∷◌, ◌++◌, true, false, Option, None, Some, codes}
+-- The words of a report's line: what was done, and what it came to.
+use Rattle.std.specs.Prelude.{ℕ, List, [], ◌∷◌, ◌++◌, codes}
 use Rattle.std.specs.List.{flat_map}
-use Rattle.std.specs.Fmt.{decimal}
 use Rattle.fission_ids.specs.Ids.{context_text, query_text, group_text}
-use Rattle.field_table.specs.declared.value.Value.{Value}
-use Rattle.field_table.specs.declared.value.Value.TheVariants.{Flag, Number, Words}
 use Rattle.wire_msgs.specs.declared.action.Action.{Action}
 use Rattle.wire_msgs.specs.declared.action.Action.TheVariants as actions
 use Rattle.wire_msgs.specs.declared.action.ParentAction.{ParentAction}
 use Rattle.wire_msgs.specs.declared.action.ParentAction.TheVariants as parents
 use Rattle.wire_msgs.specs.declared.answer.Answer.{Answer}
-use Rattle.wire_msgs.specs.declared.answer.Answer.TheVariants.{Done, Context, Tab, Query, Target, Parts, Ended, Ignored, Refused}
-use Rattle.serde_json.specs.Data.{string}
-use Rattle.serde_json.specs.Written.{compact_text}
+use Rattle.wire_msgs.specs.declared.answer.Answer.TheVariants.{Done, Context, Tab, Query, Target, Parts}
+use Rattle.wire_msgs.specs.declared.answer.Answer.TheVariants.{Ended, Ignored, Refused}
 use Rattle.journal.specs.declared.entry.Step.{Step}
 use Rattle.journal.specs.declared.entry.Step.TheVariants.{ParentAct, Take}
-use Rattle.report_words.specs.Pieces.{joined, after_blank, process_text}
+use Rattle.report_words.specs.Pieces.{text_of_pieces, after_blank, process_text}
 use Rattle.report_words.specs.Refusals.{refusal_text, cause_text}
 use Rattle.report_words.specs.Notes.{note_text}
 
@@ -51,18 +47,10 @@ step_text (Take p) = process_text p ++ codes " take"
 unfoldable pub answer_text : Answer → List ℕ
 answer_text Done = codes "ok"
 answer_text (Context x) = codes "ok " ++ context_text x
-answer_text (Tab g x) = joined (codes "ok " ∷ group_text g ∷ codes " " ∷ context_text x ∷ [])
+answer_text (Tab g x) = text_of_pieces (codes "ok " ∷ group_text g ∷ codes " " ∷ context_text x ∷ [])
 answer_text (Query q) = codes "ok " ++ query_text q
 answer_text (Target p) = codes "ok " ++ process_text p
 answer_text (Parts notes) = codes "ok" ++ flat_map (λ note. after_blank (note_text note)) notes
 answer_text (Ended cause) = codes "ended " ++ cause_text cause
 answer_text Ignored = codes "ignored"
 answer_text (Refused why) = refusal_text why
-
--- a value, or `-` where there is none; a text as JSON writes it
-unfoldable pub value_text : Option Value → List ℕ
-value_text None = codes "-"
-value_text (Some (Flag true)) = codes "true"
-value_text (Some (Flag false)) = codes "false"
-value_text (Some (Number n)) = decimal n
-value_text (Some (Words text)) = compact_text (string text)

@@ -3,7 +3,7 @@
 ghost use Rattle.std.specs.Prelude.{◌≡◌, ◌++◌, [], ◌∷◌, IfOk, OnOk, codes, string_bytes};
 ghost use Rattle.std.specs.List.{flat_map};
 ghost use Rattle.fission_ids.specs.Ids.{context_text, group_text};
-ghost use Rattle.report_words.specs.Pieces.{joined, after_blank};
+ghost use Rattle.report_words.specs.Pieces.{text_of_pieces, after_blank};
 ghost use Rattle.report_words.specs.Refusals.{cause_text};
 ghost use Rattle.report_words.specs.Notes.{note_text};
 ghost use Rattle.report_words.specs.Words.{answer_text};
@@ -17,7 +17,8 @@ use std::alloc::Global;
 use wire_msgs::{Answer, EndCause, PartNote};
 
 fn tab_words(alloc: Global, group: GroupId, context: ContextId) -> Result<String, OutOfMemory>
-    ensures { IfOk result (λ s. string_bytes s ≡ joined (codes "ok " ∷ group_text group ∷ codes " " ∷ context_text context ∷ [])) }
+    ensures { IfOk result (λ s. string_bytes s ≡
+        text_of_pieces (codes "ok " ∷ group_text group ∷ codes " " ∷ context_text context ∷ [])) }
 {
     let group = group.print(alloc)?;
     let context = context.print(alloc)?;
@@ -34,7 +35,8 @@ fn push_note(alloc: Global, out: &mut String, note: &PartNote) -> Result<(), Out
 }
 
 fn parts_words(alloc: Global, notes: &[PartNote]) -> Result<String, OutOfMemory>
-    ensures { IfOk result (λ s. string_bytes s ≡ codes "ok" ++ flat_map (λ note. after_blank (note_text note)) notes.now) }
+    ensures { IfOk result (λ s. string_bytes s ≡
+        codes "ok" ++ flat_map (λ note. after_blank (note_text note)) notes.now) }
 {
     let mut out = alone(alloc, "ok")?;
     for note in notes {

@@ -2,7 +2,7 @@
 
 ghost use Rattle.std.specs.Prelude.{◌≡◌, ◌++◌, [], ◌∷◌, IfOk, codes, decimal, string_bytes};
 ghost use Rattle.fission_ids.specs.Ids.{context_text};
-ghost use Rattle.report_words.specs.Pieces.{joined, names_text};
+ghost use Rattle.report_words.specs.Pieces.{text_of_pieces, names_text};
 ghost use Rattle.report_words.specs.Refusals.{id_text, cause_text};
 
 use crate::items::{alone, push_names, with_context, with_query, with_window};
@@ -12,7 +12,8 @@ use std::alloc::Global;
 use wire_msgs::EndCause;
 
 fn denied_words(alloc: Global, context: ContextId, fields: FieldSet) -> Result<String, OutOfMemory>
-    ensures { IfOk result (λ s. string_bytes s ≡ joined (codes "denied " ∷ context_text context ∷ names_text fields ∷ [])) }
+    ensures { IfOk result (λ s. string_bytes s ≡
+        text_of_pieces (codes "denied " ∷ context_text context ∷ names_text fields ∷ [])) }
 {
     let mut out = with_context(alloc, "denied", context)?;
     push_names(&mut out, fields)?;
@@ -21,7 +22,8 @@ fn denied_words(alloc: Global, context: ContextId, fields: FieldSet) -> Result<S
 
 // A word, and the two numbers that don't fit each other.
 fn numbers_words(alloc: Global, word: &str, said: u64, due: u64) -> Result<String, OutOfMemory>
-    ensures { IfOk result (λ s. string_bytes s ≡ joined (word.now ∷ codes " " ∷ decimal said ∷ codes " " ∷ decimal due ∷ [])) }
+    ensures { IfOk result (λ s. string_bytes s ≡
+        text_of_pieces (word.now ∷ codes " " ∷ decimal said ∷ codes " " ∷ decimal due ∷ [])) }
 {
     Ok(format!(in alloc; "{word} {said} {due}")?)
 }

@@ -3,7 +3,7 @@
 ghost use Rattle.std.specs.Prelude.{◌≡◌, ◌++◌, [], ◌∷◌, IfOk, OnOk, codes, string_bytes};
 ghost use Rattle.std.specs.List.{flat_map};
 ghost use Rattle.fission_ids.specs.Ids.{context_text, window_text, query_text, group_text};
-ghost use Rattle.report_words.specs.Pieces.{joined, process_text, name_in, names_text};
+ghost use Rattle.report_words.specs.Pieces.{text_of_pieces, process_text, name_in, names_text};
 
 use field_table::{Field, FieldSet};
 use fission_ids::{ContextId, GroupId, OutOfMemory, ProcId, QueryId, WindowId};
@@ -18,7 +18,7 @@ pub(crate) fn alone(alloc: Global, item: &str) -> Result<String, OutOfMemory>
 
 // Two items.
 pub(crate) fn pair(alloc: Global, first: &str, second: &str) -> Result<String, OutOfMemory>
-    ensures { IfOk result (λ s. string_bytes s ≡ joined (first.now ∷ codes " " ∷ second.now ∷ [])) }
+    ensures { IfOk result (λ s. string_bytes s ≡ text_of_pieces (first.now ∷ codes " " ∷ second.now ∷ [])) }
 {
     Ok(format!(in alloc; "{first} {second}")?)
 }
@@ -30,7 +30,8 @@ pub(crate) fn triple(
     second: &str,
     third: &str,
 ) -> Result<String, OutOfMemory>
-    ensures { IfOk result (λ s. string_bytes s ≡ joined (first.now ∷ codes " " ∷ second.now ∷ codes " " ∷ third.now ∷ [])) }
+    ensures { IfOk result (λ s. string_bytes s ≡
+        text_of_pieces (first.now ∷ codes " " ∷ second.now ∷ codes " " ∷ third.now ∷ [])) }
 {
     Ok(format!(in alloc; "{first} {second} {third}")?)
 }
@@ -45,7 +46,8 @@ pub fn process_words(alloc: Global, p: ProcId) -> Result<String, OutOfMemory>
 
 // A word, and the process that it speaks of.
 pub(crate) fn with_process(alloc: Global, word: &str, p: ProcId) -> Result<String, OutOfMemory>
-    ensures { IfOk result (λ s. string_bytes s ≡ joined (word.now ∷ codes " " ∷ process_text p ∷ [])) }
+    ensures { IfOk result (λ s. string_bytes s ≡
+        text_of_pieces (word.now ∷ codes " " ∷ process_text p ∷ [])) }
 {
     let p = process_words(alloc, p)?;
     pair(alloc, word, p.as_str())
@@ -57,7 +59,8 @@ pub(crate) fn with_context(
     word: &str,
     context: ContextId,
 ) -> Result<String, OutOfMemory>
-    ensures { IfOk result (λ s. string_bytes s ≡ joined (word.now ∷ codes " " ∷ context_text context ∷ [])) }
+    ensures { IfOk result (λ s. string_bytes s ≡
+        text_of_pieces (word.now ∷ codes " " ∷ context_text context ∷ [])) }
 {
     let context = context.print(alloc)?;
     pair(alloc, word, context.as_str())
@@ -69,7 +72,8 @@ pub(crate) fn with_window(
     word: &str,
     window: WindowId,
 ) -> Result<String, OutOfMemory>
-    ensures { IfOk result (λ s. string_bytes s ≡ joined (word.now ∷ codes " " ∷ window_text window ∷ [])) }
+    ensures { IfOk result (λ s. string_bytes s ≡
+        text_of_pieces (word.now ∷ codes " " ∷ window_text window ∷ [])) }
 {
     let window = window.print(alloc)?;
     pair(alloc, word, window.as_str())
@@ -77,7 +81,8 @@ pub(crate) fn with_window(
 
 // A word, and the query that it speaks of.
 pub(crate) fn with_query(alloc: Global, word: &str, query: QueryId) -> Result<String, OutOfMemory>
-    ensures { IfOk result (λ s. string_bytes s ≡ joined (word.now ∷ codes " " ∷ query_text query ∷ [])) }
+    ensures { IfOk result (λ s. string_bytes s ≡
+        text_of_pieces (word.now ∷ codes " " ∷ query_text query ∷ [])) }
 {
     let query = query.print(alloc)?;
     pair(alloc, word, query.as_str())
@@ -85,7 +90,8 @@ pub(crate) fn with_query(alloc: Global, word: &str, query: QueryId) -> Result<St
 
 // A word, and the group that it speaks of.
 pub(crate) fn with_group(alloc: Global, word: &str, group: GroupId) -> Result<String, OutOfMemory>
-    ensures { IfOk result (λ s. string_bytes s ≡ joined (word.now ∷ codes " " ∷ group_text group ∷ [])) }
+    ensures { IfOk result (λ s. string_bytes s ≡
+        text_of_pieces (word.now ∷ codes " " ∷ group_text group ∷ [])) }
 {
     let group = group.print(alloc)?;
     pair(alloc, word, group.as_str())

@@ -1,6 +1,6 @@
 //! The words of a report's line: who did what, what it came to, and what a field shows.
-//! Each function here gives exactly the text that its definition in `specs` tells, or answers that memory is wanting.
-//! The items of a text stand with one blank between them, and no text ends a line.
+//! Each function here gives exactly the text that its definition in `specs` tells, or answers that memory is
+//! wanting. The items of a text stand with one blank between them, and no text ends a line.
 //! Nothing here knows a run or a journal, numbers a line, or writes anywhere.
 #![tactic(auto)]
 

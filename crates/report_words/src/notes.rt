@@ -3,8 +3,9 @@
 ghost use Rattle.std.specs.Prelude.{◌≡◌, ◌++◌, [], ◌∷◌, IfOk, OnOk, codes, decimal, string_bytes};
 ghost use Rattle.std.specs.List.{flat_map};
 ghost use Rattle.fission_ids.specs.Ids.{context_text, window_text, query_text};
-ghost use Rattle.report_words.specs.Pieces.{joined};
-ghost use Rattle.report_words.specs.Notes.{mark_text, field_mark_text, field_note_text, load_mark_text, ask_mark_text, note_text};
+ghost use Rattle.report_words.specs.Pieces.{text_of_pieces};
+ghost use Rattle.report_words.specs.Notes.{mark_text, field_mark_text, field_note_text, load_mark_text};
+ghost use Rattle.report_words.specs.Notes.{ask_mark_text, note_text};
 
 use crate::items::{alone, process_words, triple, with_context, with_group};
 use fission_ids::{ContextId, OutOfMemory, QueryId, WindowId};
@@ -24,7 +25,8 @@ fn mark_words(mark: Mark) -> &'static str
 
 // A word, what it speaks of, and what became of that.
 fn marked(alloc: Global, word: &str, item: &str, mark: Mark) -> Result<String, OutOfMemory>
-    ensures { IfOk result (λ s. string_bytes s ≡ joined (word.now ∷ codes " " ∷ item.now ∷ mark_text mark ∷ [])) }
+    ensures { IfOk result (λ s. string_bytes s ≡
+        text_of_pieces (word.now ∷ codes " " ∷ item.now ∷ mark_text mark ∷ [])) }
 {
     let mark = mark_words(mark);
     Ok(format!(in alloc; "{word} {item}{mark}")?)
@@ -36,7 +38,8 @@ fn context_note(
     context: ContextId,
     mark: Mark,
 ) -> Result<String, OutOfMemory>
-    ensures { IfOk result (λ s. string_bytes s ≡ joined (word.now ∷ codes " " ∷ context_text context ∷ mark_text mark ∷ [])) }
+    ensures { IfOk result (λ s. string_bytes s ≡
+        text_of_pieces (word.now ∷ codes " " ∷ context_text context ∷ mark_text mark ∷ [])) }
 {
     let context = context.print(alloc)?;
     marked(alloc, word, context.as_str(), mark)
@@ -48,14 +51,16 @@ fn window_note(
     window: WindowId,
     mark: Mark,
 ) -> Result<String, OutOfMemory>
-    ensures { IfOk result (λ s. string_bytes s ≡ joined (word.now ∷ codes " " ∷ window_text window ∷ mark_text mark ∷ [])) }
+    ensures { IfOk result (λ s. string_bytes s ≡
+        text_of_pieces (word.now ∷ codes " " ∷ window_text window ∷ mark_text mark ∷ [])) }
 {
     let window = window.print(alloc)?;
     marked(alloc, word, window.as_str(), mark)
 }
 
 fn reply_note(alloc: Global, query: QueryId, mark: Mark) -> Result<String, OutOfMemory>
-    ensures { IfOk result (λ s. string_bytes s ≡ joined (codes "reply " ∷ query_text query ∷ mark_text mark ∷ [])) }
+    ensures { IfOk result (λ s. string_bytes s ≡
+        text_of_pieces (codes "reply " ∷ query_text query ∷ mark_text mark ∷ [])) }
 {
     let query = query.print(alloc)?;
     marked(alloc, "reply", query.as_str(), mark)
@@ -67,7 +72,8 @@ fn tell_note(
     actor: &str,
     mark: Mark,
 ) -> Result<String, OutOfMemory>
-    ensures { IfOk result (λ s. string_bytes s ≡ joined (codes "tell " ∷ window_text window ∷ codes " " ∷ actor.now ∷ mark_text mark ∷ [])) }
+    ensures { IfOk result (λ s. string_bytes s ≡
+        text_of_pieces (codes "tell " ∷ window_text window ∷ codes " " ∷ actor.now ∷ mark_text mark ∷ [])) }
 {
     let window = window.print(alloc)?;
     let window = window.as_str();
@@ -88,7 +94,8 @@ fn ask_mark_word(mark: AskMark) -> &'static str
 }
 
 fn ask_note(alloc: Global, query: QueryId, mark: AskMark) -> Result<String, OutOfMemory>
-    ensures { IfOk result (λ s. string_bytes s ≡ joined (codes "ask " ∷ query_text query ∷ codes " " ∷ ask_mark_text mark ∷ [])) }
+    ensures { IfOk result (λ s. string_bytes s ≡
+        text_of_pieces (codes "ask " ∷ query_text query ∷ codes " " ∷ ask_mark_text mark ∷ [])) }
 {
     let query = query.print(alloc)?;
     triple(alloc, "ask", query.as_str(), ask_mark_word(mark))
@@ -120,7 +127,8 @@ fn load_mark_words(alloc: Global, mark: LoadMark) -> Result<String, OutOfMemory>
 }
 
 fn load_note(alloc: Global, context: ContextId, mark: LoadMark) -> Result<String, OutOfMemory>
-    ensures { IfOk result (λ s. string_bytes s ≡ joined (codes "load " ∷ context_text context ∷ codes " " ∷ load_mark_text mark ∷ [])) }
+    ensures { IfOk result (λ s. string_bytes s ≡
+        text_of_pieces (codes "load " ∷ context_text context ∷ codes " " ∷ load_mark_text mark ∷ [])) }
 {
     let context = context.print(alloc)?;
     let mark = load_mark_words(alloc, mark)?;
@@ -150,7 +158,8 @@ fn push_field(out: &mut String, note: FieldNote) -> Result<(), OutOfMemory>
 }
 
 fn push_fields(out: &mut String, notes: &[FieldNote]) -> Result<(), OutOfMemory>
-    ensures { OnOk result (string_bytes out.new ≡ string_bytes out.old ++ flat_map field_note_text notes.now) }
+    ensures { OnOk result (string_bytes out.new ≡
+        string_bytes out.old ++ flat_map field_note_text notes.now) }
 {
     for note in notes {
         push_field(out, *note)?;
@@ -163,14 +172,15 @@ fn commit_note(
     context: ContextId,
     notes: &[FieldNote],
 ) -> Result<String, OutOfMemory>
-    ensures { IfOk result (λ s. string_bytes s ≡ joined (codes "commit " ∷ context_text context ∷ flat_map field_note_text notes.now ∷ [])) }
+    ensures { IfOk result (λ s. string_bytes s ≡
+        text_of_pieces (codes "commit " ∷ context_text context ∷ flat_map field_note_text notes.now ∷ [])) }
 {
     let mut out = with_context(alloc, "commit", context)?;
     push_fields(&mut out, notes)?;
     Ok(out)
 }
 
-// The text of a part's note: what the part was, what it spoke of, and where it wasn't just done, what became of it.
+// The text of a part's note: what the part was, what it spoke of, and what became of it where it wasn't done.
 #[tactic(auto, unfolding(crate::specs::Notes::note_text, crate::specs::Notes::mark_text))]
 pub(crate) fn note_words(alloc: Global, note: &PartNote) -> Result<String, OutOfMemory>
     ensures { IfOk result (λ s. string_bytes s ≡ note_text note.now) }

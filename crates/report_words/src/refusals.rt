@@ -1,8 +1,9 @@
 //! Why a step was refused.
 
-ghost use Rattle.std.specs.Prelude.{◌≡◌, ◌++◌, [], ◌∷◌, IfOk, codes, decimal, string_bytes};
-ghost use Rattle.report_words.specs.Pieces.{joined, after_blank, names_text};
-ghost use Rattle.report_words.specs.Refusals.{refusal_number, why_text, counted_text, detail_text, refusal_text};
+ghost use Rattle.std.specs.Prelude.{◌≡◌, [], ◌∷◌, IfOk, codes, decimal, string_bytes};
+ghost use Rattle.report_words.specs.Pieces.{text_of_pieces, after_blank, names_text};
+ghost use Rattle.report_words.specs.Refusals.{refusal_number, why_text, counted_text, detail_text};
+ghost use Rattle.report_words.specs.Refusals.{refusal_text};
 
 use crate::items::push_names;
 use field_table::FieldSet;
@@ -69,7 +70,8 @@ fn actor_detail(alloc: Global, why: Why) -> Result<String, OutOfMemory>
 }
 
 fn count_detail(alloc: Global, what: Counted, most: u32) -> Result<String, OutOfMemory>
-    ensures { IfOk result (λ s. string_bytes s ≡ joined (codes " " ∷ counted_text what ∷ codes " " ∷ decimal most ∷ [])) }
+    ensures { IfOk result (λ s. string_bytes s ≡
+        text_of_pieces (codes " " ∷ counted_text what ∷ codes " " ∷ decimal most ∷ [])) }
 {
     let what = counted_word(what);
     Ok(format!(in alloc; " {what} {most}")?)
@@ -96,8 +98,8 @@ fn detail_words(alloc: Global, why: Refusal) -> Result<String, OutOfMemory>
     }
 }
 
-// The text of a refusal: `refused`, its number, and where the refusal has more to say, the denied fields by number, why
-// no actor was admitted, or how many there are of what.
+// The text of a refusal: `refused`, its number, and where the refusal has more to say, the denied fields by
+// number, why no actor was admitted, or how many there are of what.
 #[tactic(auto, unfolding(crate::specs::Refusals::refusal_text))]
 pub(crate) fn refusal_words(alloc: Global, why: Refusal) -> Result<String, OutOfMemory>
     ensures { IfOk result (λ s. string_bytes s ≡ refusal_text why) }

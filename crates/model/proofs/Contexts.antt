@@ -1,9 +1,9 @@
 -- Which ids are of one context, and which contexts are live.
 use Rattle.std.proofs.Common.{◌≡◌, ℕ, Bool, true, false, ◌==◌, Option, None, Some, is_some, List, refl, sym, ap, ap₂, ◌∙◌}
 use Rattle.std.proofs.lemmas.Bool.{and_parts, eqb-true}
+use Rattle.fission_ids.specs.Ids.{same_context}
 use Rattle.fission_ids.specs.declared.context.ContextId.{ContextId}
 use Rattle.wire_msgs.specs.declared.config.StartTab.{StartTab}
-use Rattle.model.specs.Journal.{same_context}
 use Rattle.model.specs.Tabs.{tab_of, is_live, is_of_tab, is_subscribed}
 
 -- ids of one context are equal

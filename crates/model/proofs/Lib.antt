@@ -1,4 +1,3 @@
-pub mod Lists
 pub mod Contexts
 pub mod Bundles
 pub mod Moments

@@ -1,5 +1,6 @@
 -- A journal, with the newest entry first, and what one entry tells. An entry's number counts from 1.
-use Rattle.std.specs.Prelude.{ℕ, ◌-◌, ◌==◌, ◌&&◌, List, length, drop, Bool, true, false, Option, None, Some, if◌then◌else◌}
+use Rattle.std.specs.Prelude.{ℕ, ◌-◌, List, length, drop, Bool, true, false, if◌then◌else◌}
+use Rattle.std.specs.Prelude.{Option, None, Some}
 use Rattle.fission_ids.specs.declared.context.ContextId.{ContextId}
 use Rattle.transaction.specs.Transaction.{Changes}
 use Rattle.wire_msgs.specs.declared.action.ParentAction.{ParentAction}
@@ -22,25 +23,21 @@ abbrev pub is_accepted : Answer → Bool
 is_accepted (Refused why) = false
 is_accepted answer = true
 
--- whether two ids are of one context
-abbrev pub same_context : ContextId → ContextId → Bool
-same_context x y = x.creator == y.creator && x.serial == y.serial
-
 -- new values for fields of a context
 pub record Commit : Type 0 where
   pub context : ContextId
   pub change : Changes
 
 -- what an action of the parent would commit
-abbrev pub commit_in : ParentAction → Option Commit
-commit_in (actions.Set x t) = Some (record { context = x; change = t })
-commit_in action = None
+abbrev pub commit_of_action : ParentAction → Option Commit
+commit_of_action (actions.Set x t) = Some (record { context = x; change = t })
+commit_of_action action = None
 
 -- what a step would commit
-abbrev pub commit_of : Step → Option Commit
-commit_of (ParentAct action) = commit_in action
-commit_of (Take p) = None
+abbrev pub commit_of_step : Step → Option Commit
+commit_of_step (ParentAct action) = commit_of_action action
+commit_of_step (Take p) = None
 
 -- what an entry committed
-abbrev pub committed : Entry → Option Commit
-committed e = if is_accepted e.answer then commit_of e.step else None
+abbrev pub commit_of_entry : Entry → Option Commit
+commit_of_entry e = if is_accepted e.answer then commit_of_step e.step else None

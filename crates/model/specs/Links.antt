@@ -1,9 +1,10 @@
 -- What the parent sent to each process, what the process took of it, and what still waits.
-use Rattle.std.specs.Prelude.{ℕ, suc, ◌==◌, List, [], ◌∷◌, ◌++◌, length, take, drop, Bool, false, ◌&&◌, if◌then◌else◌, Option, None, Some}
+use Rattle.std.specs.Prelude.{ℕ, suc, ◌==◌, Bool, false, ◌&&◌, if◌then◌else◌, Option, None, Some}
+use Rattle.std.specs.Prelude.{List, [], ◌∷◌, ◌++◌, length, take, drop}
 use Rattle.wire_msgs.specs.declared.config.Config.{Config}
 use Rattle.journal.specs.declared.entry.Step.{Step}
 use Rattle.journal.specs.declared.entry.Step.TheVariants as steps
-use Rattle.model.specs.Journal.{Journal, Commit, is_accepted, committed}
+use Rattle.model.specs.Journal.{Journal, Commit, is_accepted, commit_of_entry}
 use Rattle.model.specs.Tabs.{is_subscribed}
 
 -- a bundle on a link, which is one commit, and the number of the entry that sent it
@@ -11,20 +12,17 @@ pub record Sent : Type 0 where
   pub entry : ℕ
   pub commit : Commit
 
--- whether a commit is sent to process p
-abbrev pub is_sent : Config → ℕ → Option Commit → Bool
-is_sent c p None = false
-is_sent c p (Some commit) = is_subscribed c.tabs commit.context p
-
--- what an entry with the number k sent to process p
-abbrev pub sent_in : Config → ℕ → ℕ → Option Commit → List Sent
-sent_in c p k None = []
-sent_in c p k (Some commit) = if is_subscribed c.tabs commit.context p then record { entry = k; commit = commit } ∷ [] else []
+-- what an entry with the number k, which committed this or nothing, sent to process p
+abbrev pub bundles_sent_in : Config → ℕ → ℕ → Option Commit → List Sent
+bundles_sent_in c p k None = []
+bundles_sent_in c p k (Some commit) =
+    if is_subscribed c.tabs commit.context p then record { entry = k; commit = commit } ∷ [] else []
 
 -- all that was sent to process p, the oldest first
-unfoldable pub sent : Config → ℕ → Journal → List Sent
-sent c p [] = []
-sent c p (e ∷ older) = sent c p older ++ sent_in c p (suc (length older)) (committed e)
+unfoldable pub bundles_sent : Config → ℕ → Journal → List Sent
+bundles_sent c p [] = []
+bundles_sent c p (e ∷ older) =
+    bundles_sent c p older ++ bundles_sent_in c p (suc (length older)) (commit_of_entry e)
 
 -- whether a step is a take of process p
 abbrev pub is_take : ℕ → Step → Bool
@@ -32,13 +30,13 @@ is_take p (steps.ParentAct action) = false
 is_take p (steps.Take q) = q.0 == p
 
 -- how many bundles process p took
-unfoldable pub taken : ℕ → Journal → ℕ
-taken p [] = 0
-taken p (e ∷ older) = if is_accepted e.answer && is_take p e.step then suc (taken p older) else taken p older
+unfoldable pub takes : ℕ → Journal → ℕ
+takes p [] = 0
+takes p (e ∷ older) = if is_accepted e.answer && is_take p e.step then suc (takes p older) else takes p older
 
 -- what was sent to process p and not taken, the oldest first
-abbrev pub waiting : Config → ℕ → Journal → List Sent
-waiting c p j = drop (taken p j) (sent c p j)
+abbrev pub bundles_waiting : Config → ℕ → Journal → List Sent
+bundles_waiting c p j = drop (takes p j) (bundles_sent c p j)
 
 -- the entry of the last bundle of a list, or k where there is none
 abbrev pub last_entry : ℕ → List Sent → ℕ
@@ -47,4 +45,4 @@ last_entry k (s ∷ ss) = last_entry s.entry ss
 
 -- the number of the entry that sent the last bundle that process p took, or 0
 abbrev pub base : Config → ℕ → Journal → ℕ
-base c p j = last_entry 0 (take (taken p j) (sent c p j))
+base c p j = last_entry 0 (take (takes p j) (bundles_sent c p j))

@@ -9,7 +9,7 @@ use Rattle.model.specs.Tabs.{is_live, is_subscribed}
 use Rattle.model.specs.Values.{value_at}
 use Rattle.model.specs.Links.{base}
 
--- the entry up to which process p knows the parent's values. It writes none of its own, so no own write moves it on.
+-- the entry up to which process p knows the parent's values; as it writes none of its own, its base alone
 abbrev pub point : Config → ℕ → Journal → ℕ
 point c p j = base c p j
 

@@ -4,3 +4,4 @@ pub mod Merging
 pub mod Orders
 pub mod Moves
 pub mod Standing
+pub mod Fitting

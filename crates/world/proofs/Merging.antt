@@ -1,29 +1,30 @@
 -- Changes merged into the parent's values are its values after the entry that commits them.
 use Rattle.std.proofs.Common.{◌≡◌, [], ◌∷◌, map, Bool, true, false, if◌then◌else◌, Option, Some, None, unwrap_or, option_and_then, refl, sym}
+use Rattle.fission_ids.specs.Ids.{same_context}
 use Rattle.fission_ids.specs.declared.context.ContextId.{ContextId}
 use Rattle.field_table.specs.Field.{fields}
 use Rattle.field_table.specs.Table.{Table, initial_table}
-use Rattle.transaction.specs.Transaction.{Changes, written, merged}
+use Rattle.transaction.specs.Transaction.{Changes, new_value, merged}
 use Rattle.transaction.proofs.Merging.{merged_map}
 use Rattle.journal.specs.declared.entry.Entry.{Entry}
-use Rattle.model.specs.Journal.{Journal, Commit, same_context, committed}
+use Rattle.model.specs.Journal.{Journal, Commit, commit_of_entry}
 use Rattle.model.specs.Values.{value_for, value_at}
 use Rattle.world.specs.Stands.{table_at}
 
 -- a table of context x with a commit applied
-abbrev pub applied : ContextId → Commit → Table → Table
-applied x m table = if same_context m.context x then merged m.change table else table
+abbrev pub table_with : ContextId → Commit → Table → Table
+table_with x m table = if same_context m.context x then merged m.change table else table
 
 -- the table of context x after an entry that commits this, or nothing
 abbrev pub table_after : ContextId → Option Commit → Table → Table
 table_after x None table = table
-table_after x (Some m) table = applied x m table
+table_after x (Some m) table = table_with x m table
 
-pub table_more : (x : ContextId) (e : Entry) (j : Journal) → table_at x (e ∷ j) ≡ table_after x (committed e) (table_at x j)
+pub table_more : (x : ContextId) (e : Entry) (j : Journal) → table_at x (e ∷ j) ≡ table_after x (commit_of_entry e) (table_at x j)
 unfolding value_at
-table_more x e j = by_commit (committed e)
+table_more x e j = by_commit (commit_of_entry e)
   where
-    by_context : (b : Bool) (t : Changes) → map (λ f. unwrap_or (if b then written t f else None) (value_at x f j)) fields ≡ (if b then merged t (table_at x j) else table_at x j)
+    by_context : (b : Bool) (t : Changes) → map (λ f. unwrap_or (if b then new_value t f else None) (value_at x f j)) fields ≡ (if b then merged t (table_at x j) else table_at x j)
     by_context true t = sym (merged_map t (λ f. value_at x f j))
     by_context false t = refl
 

@@ -2,9 +2,9 @@
 use Rattle.std.proofs.Common.{◌≡◌, ◌≢◌, ℕ, ◌+◌, ◌-◌, ◌<◌, Bool, true, false, cond, ◌&&◌, ◌==◌, nat_lt, eq-eqb, ne_eqb, List, length, set, get_or, Option, Some, None, is_some, slice_get, refl, sym, ap, ap₂, ◌∙◌, arith}
 use Rattle.std.proofs.lemmas.Bool.{and_parts, and_from, and_right, eqb-true, ltb-true, lt-ltb}
 use Rattle.std.proofs.lemmas.Option.{slice_get_within, slice_get-get_or}
+use Rattle.fission_ids.specs.Ids.{same_context}
 use Rattle.fission_ids.specs.declared.context.ContextId.{ContextId}
 use Rattle.wire_msgs.specs.declared.config.StartTab.{StartTab}
-use Rattle.model.specs.Journal.{same_context}
 use Rattle.model.specs.Tabs.{tab_of, is_live}
 use Rattle.world.specs.Places.{nth_context, place_of, by_tab}
 use Rattle.world.proofs.Lists.{set-numbers, get_or-map-numbers}

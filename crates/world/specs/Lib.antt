@@ -1,4 +1,7 @@
 pub mod Places
-pub mod Process
-pub mod Side
+pub mod ProcessState
+pub mod Start
+pub mod Sending
+pub mod Taking
+pub mod Steps
 pub mod Stands

@@ -7,11 +7,11 @@ use Rattle.wire_msgs.specs.declared.config.Config.{Config}
 use Rattle.model.specs.Journal.{Journal, up_to}
 use Rattle.model.specs.Values.{value_at}
 use Rattle.model.specs.Tabs.{is_subscribed}
-use Rattle.model.specs.Links.{base, waiting}
+use Rattle.model.specs.Links.{base, bundles_waiting}
 use Rattle.model.specs.Next.{Lawful}
 use Rattle.world.specs.Places.{numbers, by_tab}
-use Rattle.world.specs.Process.{Process}
-use Rattle.world.specs.Side.{bundle_of}
+use Rattle.world.specs.ProcessState.{ProcessState}
+use Rattle.world.specs.Sending.{bundle_of}
 
 -- the parent's values of a context after a journal
 abbrev pub table_at : ContextId → Journal → Table
@@ -22,19 +22,22 @@ abbrev pub parent_of : Config → Journal → List Table
 parent_of c j = by_tab (λ x. table_at x j) c.tabs
 
 -- the table that process p has of a context after a journal, if it holds the context
-abbrev pub held_at : Config → Journal → ℕ → ContextId → Option Table
-held_at c j p x = if is_subscribed c.tabs x p then Some (table_at x (up_to (base c p j) j)) else None
+abbrev pub held_table : Config → Journal → ℕ → ContextId → Option Table
+held_table c j p x = if is_subscribed c.tabs x p then Some (table_at x (up_to (base c p j) j)) else None
 
 -- what process p has after a journal
-abbrev pub side_of : Config → Journal → ℕ → Process
-side_of c j p = record { tables = by_tab (held_at c j p) c.tabs; link = map (λ s. bundle_of s.commit) (waiting c p j) }
+abbrev pub process_of : Config → Journal → ℕ → ProcessState
+process_of c j p = record {
+  tables = by_tab (held_table c j p) c.tabs;
+  link = map (λ s. bundle_of s.commit) (bundles_waiting c p j);
+}
 
 -- what each process has after a journal
-abbrev pub sides_of : Config → Journal → List Process
-sides_of c j = map (side_of c j) (numbers 0 (length c.types))
+abbrev pub processes_of : Config → Journal → List ProcessState
+processes_of c j = map (process_of c j) (numbers 0 (length c.types))
 
 -- a world stands for its journal
-pub record Stands (c : Config) (j : Journal) (parent : List Table) (sides : List Process) : Type 0 where
+pub record Stands (c : Config) (j : Journal) (parent : List Table) (ps : List ProcessState) : Type 0 where
   pub lawful : Lawful c j
   pub parent_is : parent ≡ parent_of c j
-  pub sides_are : sides ≡ sides_of c j
+  pub processes_are : ps ≡ processes_of c j

@@ -1,9 +1,9 @@
 //! The whole state of a run: the parent, its processes and the links between them. A world is seen as its
-//! configuration and its journal alone. That all else in it is what the journal tells, is the invariant of its type.
-//! Nothing here reads a scenario or prints.
+//! configuration and its journal alone. That all else in it is what the journal tells, is the invariant of
+//! its type. Nothing here reads a scenario or prints.
 #![tactic(auto)]
 
-mod side;
+mod process;
 mod tab;
 mod world;
 

@@ -1,15 +1,19 @@
-ghost use Rattle.std.specs.Prelude.{◌≡◌, ◌<◌, ◌≤◌, ◌∷◌, All, length, IfOk, OnOk};
+ghost use Rattle.std.specs.Prelude.{◌≡◌, ◌<◌, ◌∷◌, All, length, IfOk, OnOk};
 ghost use Rattle.std.specs.Option.{option_copied};
 ghost use Rattle.journal.specs.Step.{IsPlayed, StepFits};
 ghost use Rattle.model.specs.View.{view, parent_view};
-ghost use Rattle.model.specs.Next.{started, stepped, action_answer};
+ghost use Rattle.model.specs.Next.{run_at_start, run_after, action_answer};
+ghost use Rattle.wire_msgs.specs.Config.{ConfigFits};
 ghost use Rattle.wire_msgs.specs.declared.action.ParentAction.TheVariants.{Set};
-ghost use Rattle.world.specs.Side.{IsReady, started_parent, parent_acted, sides_acted, answer_in, parent_in, sides_in};
+ghost use Rattle.world.specs.Start.{parent_at_start};
+ghost use Rattle.world.specs.Taking.{IsReady};
+ghost use Rattle.world.specs.Steps.{step_answer, parent_after_action, parent_after_step};
+ghost use Rattle.world.specs.Steps.{processes_after_action, processes_after_step};
 
-use crate::side::{Side, send, start_sides};
+use crate::process::{Process, bundle_of, send, start_processes};
 use crate::tab::place_of;
 use field_table::{Field, Fields, Value};
-use fission_ids::{ContextId, Duplicate, OutOfMemory, ProcId};
+use fission_ids::{ContextId, Duplicate, Kept, OutOfMemory, ProcId};
 use journal::{Entry, Journal, Step};
 use model::is_live;
 use std::alloc::Global;
@@ -23,9 +27,9 @@ pub struct World {
     alloc: Global,
     config: Config,
     journal: Journal,
-    // The fields of each tab's context.
+    // The parent's fields of each tab's context.
     parent: Vec<Fields>,
-    sides: Vec<Side>,
+    processes: Vec<Process>,
 }
 
 impl Model for World {
@@ -36,44 +40,44 @@ impl Model for World {
 
     ghost view = { λ w. record { config = w.config; journal = w.journal } };
 
-    ghost invariant = { λ w. Stands w.config w.journal w.parent.items w.sides.items };
+    ghost invariant = { λ w. Stands w.config w.journal w.parent.items w.processes.items };
 }
 
 impl World {
-    /// The world of a configuration, before any step.
+    /// The world of a configuration, before any step. An error says that memory is wanting.
     pub fn start(alloc: Global, config: Config) -> Result<World, OutOfMemory>
-        requires { length config.types ≤ 16 }
-        ensures { IfOk result (λ w. w ≡ started config) }
+        requires { ConfigFits config }
+        ensures { IfOk result (λ w. w ≡ run_at_start config) }
     {
         let parent = start_parent(alloc, &config)?;
-        let sides = start_sides(alloc, &config)?;
+        let processes = start_processes(alloc, &config)?;
         Ok(World {
             alloc,
             config,
             journal: Journal::new(alloc),
             parent,
-            sides,
+            processes,
         })
     }
 
     /// The world after one step more. What the step came to is in the newest entry of the journal.
-    /// Where memory is wanting nothing of the world is left.
+    /// An error says that memory is wanting, and then nothing of the world is left.
     pub fn step(self, step: Step) -> Result<World, OutOfMemory>
         requires { StepFits (length self.config.types) step }
-        ensures { IfOk result (λ w. w ≡ stepped self step) }
+        ensures { IfOk result (λ w. w ≡ run_after self step) }
     {
         let World {
             alloc,
             config,
             mut journal,
             mut parent,
-            mut sides,
+            mut processes,
         } = self;
         let answer = act(
             alloc,
             &config,
             parent.as_mut_slice(),
-            sides.as_mut_slice(),
+            processes.as_mut_slice(),
             &step,
         )?;
         keep(&mut journal, step, answer)?;
@@ -82,7 +86,7 @@ impl World {
             config,
             journal,
             parent,
-            sides,
+            processes,
         })
     }
 
@@ -119,19 +123,19 @@ impl World {
         if !is_live(self.config.tabs.as_slice(), x) {
             return None;
         }
-        let fields = self.sides[p.0 as usize].fields(x)?;
+        let fields = self.processes[p.0 as usize].fields(x)?;
         Some(fields.get(f))
     }
 }
 
 // The parent's fields of each tab's context before any step.
 fn start_parent(alloc: Global, config: &Config) -> Result<Vec<Fields>, OutOfMemory>
-    ensures { IfOk result (λ parent. parent.items ≡ started_parent config.now.tabs) }
+    ensures { IfOk result (λ parent. parent.items ≡ parent_at_start config.now.tabs) }
 {
     let count = config.tabs.len();
     let mut parent = Vec::with_capacity(alloc, count)?;
     for _ in 0..count {
-        parent.push(Fields::initial(alloc))?;
+        parent.push(Fields::initial())?;
     }
     Ok(parent)
 }
@@ -148,19 +152,20 @@ fn act(
     alloc: Global,
     config: &Config,
     parent: &mut [Fields],
-    sides: &mut [Side],
+    processes: &mut [Process],
     step: &Step,
 ) -> Result<Answer, OutOfMemory>
-    requires step { StepFits (length sides.old) step.now }
+    requires step { StepFits (length processes.old) step.now }
     requires parent { length parent.old ≡ length config.now.tabs }
-    requires sides { All IsReady sides.old }
-    ensures answer { IfOk result (λ a. a ≡ answer_in config.now sides.old step.now) }
-    ensures parent { OnOk result (parent.new ≡ parent_in config.now.tabs step.now parent.old) }
-    ensures sides { OnOk result (sides.new ≡ sides_in config.now.tabs step.now sides.old) }
+    requires processes { All IsReady processes.old }
+    ensures answer { IfOk result (λ a. a ≡ step_answer config.now processes.old step.now) }
+    ensures parent { OnOk result (parent.new ≡ parent_after_step config.now.tabs step.now parent.old) }
+    ensures processes { OnOk result (processes.new ≡
+        processes_after_step config.now.tabs step.now processes.old) }
 {
     match step {
-        Step::ParentAct { action } => act_in_parent(alloc, config, parent, sides, action),
-        Step::Take { p } => sides[p.0 as usize].take(alloc),
+        Step::ParentAct { action } => act_in_parent(alloc, config, parent, processes, action),
+        Step::Take { p } => processes[p.0 as usize].take(alloc),
     }
 }
 
@@ -169,41 +174,44 @@ fn act_in_parent(
     alloc: Global,
     config: &Config,
     parent: &mut [Fields],
-    sides: &mut [Side],
+    processes: &mut [Process],
     action: &ParentAction,
 ) -> Result<Answer, OutOfMemory>
     requires action { IsPlayed action.now }
     requires parent { length parent.old ≡ length config.now.tabs }
     ensures answer { IfOk result (λ a. a ≡ action_answer config.now action.now) }
-    ensures parent { OnOk result (parent.new ≡ parent_acted config.now.tabs action.now parent.old) }
-    ensures sides { OnOk result (sides.new ≡ sides_acted config.now.tabs action.now sides.old) }
+    ensures parent { OnOk result (parent.new ≡ parent_after_action config.now.tabs action.now parent.old) }
+    ensures processes { OnOk result (processes.new ≡
+        processes_after_action config.now.tabs action.now processes.old) }
 {
     match action {
         ParentAction::Set { context, fields } => {
-            set(alloc, config, parent, sides, *context, fields)
+            set(alloc, config, parent, processes, *context, fields)
         }
         _ => unreachable!(),
     }
 }
 
-// The parent writes fields of a context, if it is there, and sends them to its subscribers.
+// The parent writes fields of a context, if it is there, and sends them to its subscribers in one bundle.
 fn set(
     alloc: Global,
     config: &Config,
     parent: &mut [Fields],
-    sides: &mut [Side],
+    processes: &mut [Process],
     context: ContextId,
-    change: &Transaction,
+    change: &Kept<Transaction>,
 ) -> Result<Answer, OutOfMemory>
     requires { length parent.old ≡ length config.now.tabs }
     ensures answer { IfOk result (λ a. a ≡ action_answer config.now (Set context change.now)) }
-    ensures parent { OnOk result (parent.new ≡ parent_acted config.now.tabs (Set context change.now) parent.old) }
-    ensures sides { OnOk result (sides.new ≡ sides_acted config.now.tabs (Set context change.now) sides.old) }
+    ensures parent { OnOk result (parent.new ≡
+        parent_after_action config.now.tabs (Set context change.now) parent.old) }
+    ensures processes { OnOk result (processes.new ≡
+        processes_after_action config.now.tabs (Set context change.now) processes.old) }
 {
     if !is_live(config.tabs.as_slice(), context) {
         return Ok(Answer::Refused(Refusal::NoContext));
     }
-    send(alloc, sides, context, change)?;
-    change.copy()?.apply(&mut parent[place_of(context)]);
+    send(processes, context, &bundle_of(alloc, context, change)?)?;
+    change.get().copy()?.apply(&mut parent[place_of(context)]);
     Ok(Answer::Done)
 }

@@ -1,17 +1,20 @@
 -- What holds of each scenario that is read.
-use Rattle.std.proofs.Common.{◌≡◌, ℕ, suc, ◌+◌, ◌<◌, ◌≤◌, Bool, true, false, ◌&&◌, cond, ltb, leb, nat_eq, lit≤, List, [], ◌∷◌, length, Option, Result, Ok, Err, refl, ap, subst, arith}
+use Rattle.std.proofs.Common.{◌≡◌, ℕ, suc, ◌+◌, ◌<◌, ◌≤◌, Bool, true, false, ◌&&◌, cond, ltb, leb, nat_eq, lit≤, List, [], ◌∷◌, length, Option, Some, Result, Ok, Err, refl, ap, subst, arith}
 use Rattle.std.specs.Prelude.{IfOk, codes, option_and_then}
 use Rattle.std.specs.List.{AllByRecursion}
 use Rattle.std.proofs.lemmas.Bool.{ltb-true, leb-true}
 use Rattle.serde_json.specs.Data.{Data, Items, no_items, item}
 use Rattle.serde_json.specs.Events.{items_len}
-use Rattle.serde_json.specs.Find.{get, as_array}
+use Rattle.serde_json.specs.Find.{get, as_str, as_array}
 use Rattle.fission_ids.specs.declared.process.ProcId.{ProcId}
+use Rattle.fission_ids.specs.declared.process.ProcSet.{ProcSet}
+use Rattle.fission_ids.specs.ProcSet.{has}
 use Rattle.fission_ids.specs.declared.context.ContextId.{ContextId}
 use Rattle.field_table.specs.declared.field.Field.{Field}
 use Rattle.transaction.specs.Transaction.{Changes}
 use Rattle.wire_msgs.specs.declared.action.ParentAction.TheVariants as actions
 use Rattle.wire_msgs.specs.declared.config.StartTab.{StartTab}
+use Rattle.wire_msgs.specs.Config.{is_remote_type, IsRemoteType, TabFits}
 use Rattle.journal.specs.declared.entry.Step.TheVariants as steps
 use Rattle.scenario.specs.declared.fault.ReadFault.{ReadFault}
 use Rattle.scenario.specs.declared.fault.ReadFault.TheVariants.{Shape}
@@ -21,10 +24,13 @@ use Rattle.scenario.specs.declared.line.Show.TheVariants as shows
 use Rattle.scenario.specs.declared.line.Line.{Line}
 use Rattle.scenario.specs.declared.line.Line.TheVariants as lines
 use Rattle.scenario.specs.declared.line.Scenario.{Scenario}
-use Rattle.scenario.specs.Gives.{◌>>=◌, asks, or_shape, Gives}
-use Rattle.scenario.specs.Members.{top_keys, set_keys, take_keys, show_keys, is_among, has_only, is_text, number_in}
-use Rattle.scenario.specs.Reading.{type_of, types_of, processes_of, process_of, items_in, tab_of, tabs_of, context_at, transaction_of, set_of, take_of, actor_of, field_of, show_of, line_of, lines_of, with_types, scenario_of, or_unread, data_of, reading}
+use Rattle.fission_ids.specs.Gives.{Gives}
+use Rattle.scenario.specs.Faults.{is_memory, ◌>>=◌, asks, or_shape}
+use Rattle.scenario.specs.declared.members.Kind.TheVariants as kinds
+use Rattle.scenario.specs.Members.{allows, has_only, is_text, whole_number}
+use Rattle.scenario.specs.Reading.{type_of, types_of, processes_of, process_of, items_in, process_numbers, all_differ, are_others, proc_set_of, also_of, start_tab_of, start_tabs_of, context_at, transaction_of, set_line, take_line, actor_of, field_of, show_line, line_of, lines_of, with_types, scenario_of, or_unread, data_of, reading}
 use Rattle.scenario.specs.Fits.{ActorFits, LineFits, Fits}
+use Rattle.scenario.proofs.Also.{set_below, set_of_others}
 
 -- the value of a step that did not fail
 bind_ok : {A B : Type 0} (r : Result A ReadFault) (f : A → Result B ReadFault) (y : B) → (r >>= f) ≡ Ok y → (x : A) × (r ≡ Ok x) × (f x ≡ Ok y)
@@ -42,6 +48,10 @@ done x = Ok x
 ok_is : {A : Type 0} (x y : A) → done x ≡ done y → x ≡ y
 ok_is x y e = cc
 
+first_true : (a b : Bool) → (a && b) ≡ true → a ≡ true
+first_true true b e = refl
+first_true false b e = absurd cc
+
 second_true : (a b : Bool) → (a && b) ≡ true → b ≡ true
 second_true true b e = e
 second_true false b e = absurd cc
@@ -53,55 +63,126 @@ either P false r s y first second e = second e
 
 -- ---- processes and tabs
 
-types_len : (ds : Items) (ts : List (List ℕ)) → types_of ds ≡ Ok ts → length ts ≡ items_len ds
+type_fits : (d : Data) (t : List ℕ) → type_of d ≡ Ok t → IsRemoteType t
+unfolding type_of
+type_fits d t e =
+    let a = bind_ok (or_shape 0 (as_str d)) (λ s. asks 0 (is_remote_type s) (Ok s)) t e in
+    let b = asks_ok 0 (is_remote_type a.0) (Ok a.0) t a.2 in
+    subst (λ (s : List ℕ). IsRemoteType s) (ok_is a.0 t b.1) b.0
+
+-- the remote types of the items
+record TypesFit (ds : Items) (ts : List (List ℕ)) : Type 0 where
+  all : AllByRecursion IsRemoteType ts
+  len : length ts ≡ items_len ds
+
+types_fit : (ds : Items) (ts : List (List ℕ)) → types_of ds ≡ Ok ts → TypesFit ds ts
 unfolding types_of
-types_len no_items ts e = subst (λ (y : List (List ℕ)). length y ≡ 0) (ok_is [] ts e) refl
-types_len (item d ds) ts e =
+types_fit no_items ts e = subst (λ (y : List (List ℕ)). TypesFit no_items y) (ok_is [] ts e) (record { all = tt; len = refl })
+types_fit (item d ds) ts e =
     let a = bind_ok (type_of d) (λ t. types_of ds >>= λ more. Ok (t ∷ more)) ts e in
     let b = bind_ok (types_of ds) (λ more. Ok (a.0 ∷ more)) ts a.2 in
-    subst (λ (y : List (List ℕ)). length y ≡ suc (items_len ds)) (ok_is (a.0 ∷ b.0) ts b.2) (ap suc (types_len ds b.0 b.1))
+    let rest = types_fit ds b.0 b.1 in
+    subst (λ (y : List (List ℕ)). TypesFit (item d ds) y) (ok_is (a.0 ∷ b.0) ts b.2) (record { all = (type_fits d a.0 a.1, rest.all); len = ap suc rest.len })
 
-few_processes : (found : Option Data) (ts : List (List ℕ)) → processes_of found ≡ Ok ts → length ts ≤ 16
+-- 1 to 16 remote types
+record ProcessesFit (ts : List (List ℕ)) : Type 0 where
+  some : 0 < length ts
+  few : length ts ≤ 16
+  all : AllByRecursion IsRemoteType ts
+
+processes_fit : (found : Option Data) (ts : List (List ℕ)) → processes_of found ≡ Ok ts → ProcessesFit ts
 unfolding processes_of
-few_processes found ts e =
+processes_fit found ts e =
     let a = bind_ok (or_shape 0 (option_and_then as_array found)) (λ ds. asks 0 (ltb 0 (items_len ds) && leb (items_len ds) 16) (types_of ds)) ts e in
     let b = asks_ok 0 (ltb 0 (items_len a.0) && leb (items_len a.0) 16) (types_of a.0) ts a.2 in
-    omega (arith, types_len a.0 ts b.1, leb-true (items_len a.0) 16 (second_true (ltb 0 (items_len a.0)) (leb (items_len a.0) 16) b.0))
+    let fit = types_fit a.0 ts b.1 in
+    record {
+      some = omega (arith, fit.len, ltb-true 0 (items_len a.0) (first_true (ltb 0 (items_len a.0)) (leb (items_len a.0) 16) b.0));
+      few = omega (arith, fit.len, leb-true (items_len a.0) 16 (second_true (ltb 0 (items_len a.0)) (leb (items_len a.0) 16) b.0));
+      all = fit.all;
+    }
 
 process_below : (place n : ℕ) (found : Option Data) (p : ProcId) → process_of place n found ≡ Ok p → p.0 < n
 unfolding process_of
 process_below place n found p e =
-    let a = bind_ok (or_shape place (number_in found)) (λ q. asks place (ltb q n) (Ok (record { 0 = q }))) p e in
+    let a = bind_ok (or_shape place (whole_number found)) (λ q. asks place (ltb q n) (Ok (record { 0 = q }))) p e in
     let b = asks_ok place (ltb a.0 n) (Ok (record { 0 = a.0 })) p a.2 in
     subst (λ (q : ProcId). q.0 < n) (ok_is (record { 0 = a.0 }) p b.1) (ltb-true a.0 n b.0)
 
-tabs_len : (place n : ℕ) (ds : Items) (ts : List StartTab) → tabs_of place n ds ≡ Ok ts → length ts ≡ items_len ds
-unfolding tabs_of
-tabs_len place n no_items ts e = subst (λ (y : List StartTab). length y ≡ 0) (ok_is [] ts e) refl
-tabs_len place n (item d ds) ts e =
-    let a = bind_ok (tab_of place n d) (λ t. tabs_of (place + 1) n ds >>= λ more. Ok (t ∷ more)) ts e in
-    let b = bind_ok (tabs_of (place + 1) n ds) (λ more. Ok (a.0 ∷ more)) ts a.2 in
-    subst (λ (y : List StartTab). length y ≡ suc (items_len ds)) (ok_is (a.0 ∷ b.0) ts b.2) (ap suc (tabs_len (place + 1) n ds b.0 b.1))
+numbers_below : (place n : ℕ) (ds : Items) (ps : List ProcId) → process_numbers place n ds ≡ Ok ps → AllByRecursion (λ p. p.0 < n) ps
+unfolding process_numbers
+numbers_below place n no_items ps e = subst (λ (y : List ProcId). AllByRecursion (λ p. p.0 < n) y) (ok_is [] ps e) tt
+numbers_below place n (item d ds) ps e =
+    let a = bind_ok (process_of place n (Some d)) (λ p. process_numbers place n ds >>= λ more. Ok (p ∷ more)) ps e in
+    let b = bind_ok (process_numbers place n ds) (λ more. Ok (a.0 ∷ more)) ps a.2 in
+    subst (λ (y : List ProcId). AllByRecursion (λ p. p.0 < n) y) (ok_is (a.0 ∷ b.0) ps b.2) (process_below place n (Some d) a.0 a.1, numbers_below place n ds b.0 b.1)
+
+-- the processes that hold a tab beside its owner
+record OthersFit (n : ℕ) (owner : ProcId) (s : ProcSet) : Type 0 where
+  below : (p : ℕ) → has s p ≡ true → p < n
+  others : has s owner.0 ≡ false
+
+also_fits : (place n : ℕ) (owner : ProcId) (ds : Items) (s : ProcSet) → also_of place n owner ds ≡ Ok s → OthersFit n owner s
+unfolding also_of
+also_fits place n owner ds s e =
+    let a = bind_ok (process_numbers place n ds) (λ ps. asks place (are_others owner ps && all_differ ps) (Ok (proc_set_of ps))) s e in
+    let b = asks_ok place (are_others owner a.0 && all_differ a.0) (Ok (proc_set_of a.0)) s a.2 in
+    subst (λ (y : ProcSet). OthersFit n owner y) (ok_is (proc_set_of a.0) s b.1) (record {
+      below = set_below n a.0 (numbers_below place n ds a.0 a.1);
+      others = set_of_others owner a.0 (first_true (are_others owner a.0) (all_differ a.0) b.0);
+    })
+
+tab_fits : (place n : ℕ) (d : Data) (t : StartTab) → start_tab_of place n d ≡ Ok t → TabFits n t
+unfolding start_tab_of
+tab_fits place n d t e =
+    let tab : ProcId → ProcSet → StartTab = λ owner also. record { owner = owner; also = also } in
+    let held : ProcId → Items → Result StartTab ReadFault = λ owner ds. also_of place n owner ds >>= λ also. Ok (tab owner also) in
+    let listed = items_in place (get (codes "also") d) in
+    let owned = process_of place n (get (codes "owner") d) in
+    let a = asks_ok place (has_only (allows kinds.Tab) d) (owned >>= λ owner. listed >>= held owner) t e in
+    let owner = bind_ok owned (λ owner. listed >>= held owner) t a.1 in
+    let ds = bind_ok listed (held owner.0) t owner.2 in
+    let also = bind_ok (also_of place n owner.0 ds.0) (λ also. Ok (tab owner.0 also)) t ds.2 in
+    let fit = also_fits place n owner.0 ds.0 also.0 also.1 in
+    subst (λ (y : StartTab). TabFits n y) (ok_is (tab owner.0 also.0) t also.2) (record {
+      owner = process_below place n (get (codes "owner") d) owner.0 owner.1;
+      also = fit.below;
+      others = fit.others;
+    })
+
+-- the tabs of the items
+record TabsFit (n : ℕ) (ds : Items) (ts : List StartTab) : Type 0 where
+  all : AllByRecursion (TabFits n) ts
+  len : length ts ≡ items_len ds
+
+tabs_fit : (place n : ℕ) (ds : Items) (ts : List StartTab) → start_tabs_of place n ds ≡ Ok ts → TabsFit n ds ts
+unfolding start_tabs_of
+tabs_fit place n no_items ts e = subst (λ (y : List StartTab). TabsFit n no_items y) (ok_is [] ts e) (record { all = tt; len = refl })
+tabs_fit place n (item d ds) ts e =
+    let a = bind_ok (start_tab_of place n d) (λ t. start_tabs_of (place + 1) n ds >>= λ more. Ok (t ∷ more)) ts e in
+    let b = bind_ok (start_tabs_of (place + 1) n ds) (λ more. Ok (a.0 ∷ more)) ts a.2 in
+    let rest = tabs_fit (place + 1) n ds b.0 b.1 in
+    subst (λ (y : List StartTab). TabsFit n (item d ds) y) (ok_is (a.0 ∷ b.0) ts b.2) (record { all = (tab_fits place n d a.0 a.1, rest.all); len = ap suc rest.len })
 
 -- ---- steps
 
-set_fits : (place n : ℕ) (d : Data) (l : Line) → set_of place d ≡ Ok l → LineFits n l
-unfolding set_of
+set_fits : (place n : ℕ) (d : Data) (l : Line) → set_line place d ≡ Ok l → LineFits n l
+unfolding set_line
 set_fits place n d l e =
     let set : ContextId → Changes → Line = λ x t. lines.Step (steps.ParentAct (actions.Set x t)) in
     let read : ContextId → Result Line ReadFault = λ x. transaction_of place (get (codes "fields") d) >>= λ t. Ok (set x t) in
     let named = context_at place (get (codes "context") d) >>= read in
-    let a = asks_ok place (has_only (is_among set_keys) d) (asks place (is_text (codes "parent") (get (codes "at") d)) named) l e in
+    let a = asks_ok place (has_only (allows kinds.Set) d) (asks place (is_text (codes "parent") (get (codes "at") d)) named) l e in
     let b = asks_ok place (is_text (codes "parent") (get (codes "at") d)) named l a.1 in
     let x = bind_ok (context_at place (get (codes "context") d)) read l b.1 in
     let t = bind_ok (transaction_of place (get (codes "fields") d)) (λ t. Ok (set x.0 t)) l x.2 in
     subst (λ (y : Line). LineFits n y) (ok_is (set x.0 t.0) l t.2) tt
 
-take_fits : (place n : ℕ) (d : Data) (l : Line) → take_of place n d ≡ Ok l → LineFits n l
-unfolding take_of
+take_fits : (place n : ℕ) (d : Data) (l : Line) → take_line place n d ≡ Ok l → LineFits n l
+unfolding take_line
 take_fits place n d l e =
     let at = get (codes "at") d in
-    let a = asks_ok place (has_only (is_among take_keys) d) (process_of place n at >>= λ p. Ok (lines.Step (steps.Take p))) l e in
+    let a = asks_ok place (has_only (allows kinds.Take) d) (process_of place n at >>= λ p. Ok (lines.Step (steps.Take p))) l e in
     let p = bind_ok (process_of place n at) (λ p. Ok (lines.Step (steps.Take p))) l a.1 in
     subst (λ (y : Line). LineFits n y) (ok_is (lines.Step (steps.Take p.0)) l p.2) (process_below place n at p.0 p.1)
 
@@ -114,14 +195,14 @@ actor_fits place n found who e =
     subst (λ (y : Actor). ActorFits n y) (ok_is (actors.Process p.0) who p.2) (process_below place n found p.0 p.1) in
     either (ActorFits n) (is_text (codes "parent") found) (Ok actors.Parent) read who (λ h. subst (λ (y : Actor). ActorFits n y) (ok_is actors.Parent who h) tt) second e
 
-show_fits : (place n : ℕ) (d : Data) (l : Line) → show_of place n d ≡ Ok l → LineFits n l
-unfolding show_of
+show_fits : (place n : ℕ) (d : Data) (l : Line) → show_line place n d ≡ Ok l → LineFits n l
+unfolding show_line
 show_fits place n d l e =
     let at = get (codes "at") d in
     let show : Actor → ContextId → Field → Line = λ who x f. lines.Show (shows.One who x f) in
     let named : Actor → ContextId → Result Line ReadFault = λ who x. field_of place (get (codes "field") d) >>= λ f. Ok (show who x f) in
     let found = context_at place (get (codes "context") d) in
-    let a = asks_ok place (has_only (is_among show_keys) d) (actor_of place n at >>= λ who. found >>= named who) l e in
+    let a = asks_ok place (has_only (allows kinds.Show) d) (actor_of place n at >>= λ who. found >>= named who) l e in
     let who = bind_ok (actor_of place n at) (λ who. found >>= named who) l a.1 in
     let x = bind_ok found (named who.0) l who.2 in
     let f = bind_ok (field_of place (get (codes "field") d)) (λ f. Ok (show who.0 x.0 f)) l x.2 in
@@ -131,12 +212,12 @@ line_fits : (place n : ℕ) (d : Data) (l : Line) → line_of place n d ≡ Ok l
 unfolding line_of
 line_fits place n d l e =
     let does = get (codes "do") d in
-    let third = cond (is_text (codes "show") does) (show_of place n d) (Err (Shape place)) in
-    let second = cond (is_text (codes "take") does) (take_of place n d) third in
+    let third = cond (is_text (codes "show") does) (show_line place n d) (Err (Shape place)) in
+    let second = cond (is_text (codes "take") does) (take_line place n d) third in
     let none : Err (Shape place) ≡ Ok l → LineFits n l = λ h. absurd cc in
-    let shown : third ≡ Ok l → LineFits n l = either (LineFits n) (is_text (codes "show") does) (show_of place n d) (Err (Shape place)) l (show_fits place n d l) none in
-    let taken : second ≡ Ok l → LineFits n l = either (LineFits n) (is_text (codes "take") does) (take_of place n d) third l (take_fits place n d l) shown in
-    either (LineFits n) (is_text (codes "set") does) (set_of place d) second l (set_fits place n d l) taken e
+    let shown : third ≡ Ok l → LineFits n l = either (LineFits n) (is_text (codes "show") does) (show_line place n d) (Err (Shape place)) l (show_fits place n d l) none in
+    let taken : second ≡ Ok l → LineFits n l = either (LineFits n) (is_text (codes "take") does) (take_line place n d) third l (take_fits place n d l) shown in
+    either (LineFits n) (is_text (codes "set") does) (set_line place d) second l (set_fits place n d l) taken e
 
 -- the steps from a place on
 record LinesFit (place n : ℕ) (ls : List Line) : Type 0 where
@@ -157,17 +238,17 @@ lines_fit place n (item d ds) ls within e =
 
 -- ---- the whole
 
-with_types_fits : (types : List (List ℕ)) (tabs steps : Items) (s : Scenario) → length types ≤ 16 → items_len tabs ≤ 64 → with_types types tabs steps ≡ Ok s → Fits s
-with_types_fits types tabs steps s few listed e =
+with_types_fits : (types : List (List ℕ)) (tabs steps : Items) (s : Scenario) → ProcessesFit types → items_len tabs ≤ 64 → with_types types tabs steps ≡ Ok s → Fits s
+with_types_fits types tabs steps s fit listed e =
     let made : List StartTab → List Line → Scenario = λ ts ls. record { config = record { types = types; tabs = ts }; lines = ls } in
-    let a = bind_ok (tabs_of 100001 (length types) tabs) (λ ts. lines_of 1 (length types) steps >>= λ ls. Ok (made ts ls)) s e in
+    let a = bind_ok (start_tabs_of 100001 (length types) tabs) (λ ts. lines_of 1 (length types) steps >>= λ ls. Ok (made ts ls)) s e in
     let b = bind_ok (lines_of 1 (length types) steps) (λ ls. Ok (made a.0 ls)) s a.2 in
-    let fit = lines_fit 1 (length types) steps b.0 (lit≤ tt) b.1 in
+    let opened = tabs_fit 100001 (length types) tabs a.0 a.1 in
+    let played = lines_fit 1 (length types) steps b.0 (lit≤ tt) b.1 in
     subst (λ (y : Scenario). Fits y) (ok_is (made a.0 b.0) s b.2) (record {
-      processes = few;
-      tabs = omega (arith, tabs_len 100001 (length types) tabs a.0 a.1);
-      steps = omega (arith, fit.few);
-      lines = fit.all;
+      config = record { some = fit.some; few = fit.few; types = fit.all; few_tabs = omega (arith, opened.len); tabs = opened.all };
+      steps = omega (arith, played.few);
+      lines = played.all;
     })
 
 scenario_fits : (d : Data) (s : Scenario) → scenario_of d ≡ Ok s → Fits s
@@ -176,16 +257,16 @@ scenario_fits d s e =
     let rest : List (List ℕ) → Items → Result Scenario ReadFault = λ types tabs. or_shape 0 (option_and_then as_array (get (codes "steps") d)) >>= λ steps. with_types types tabs steps in
     let listed : List (List ℕ) → Result Scenario ReadFault = λ types. items_in 0 (get (codes "tabs") d) >>= λ tabs. asks 0 (leb (items_len tabs) 64) (rest types tabs) in
     let begun = processes_of (get (codes "processes") d) >>= listed in
-    let versioned = or_shape 0 (number_in (get (codes "version") d)) >>= λ version. asks 0 (nat_eq version 1) begun in
-    let a = asks_ok 0 (has_only (is_among top_keys) d) versioned s e in
-    let version = bind_ok (or_shape 0 (number_in (get (codes "version") d))) (λ version. asks 0 (nat_eq version 1) begun) s a.1 in
+    let versioned = or_shape 0 (whole_number (get (codes "version") d)) >>= λ version. asks 0 (nat_eq version 1) begun in
+    let a = asks_ok 0 (has_only (allows kinds.Top) d) versioned s e in
+    let version = bind_ok (or_shape 0 (whole_number (get (codes "version") d))) (λ version. asks 0 (nat_eq version 1) begun) s a.1 in
     let b = asks_ok 0 (nat_eq version.0 1) begun s version.2 in
     let types = bind_ok (processes_of (get (codes "processes") d)) listed s b.1 in
     let tabs = bind_ok (items_in 0 (get (codes "tabs") d)) (λ tabs. asks 0 (leb (items_len tabs) 64) (rest types.0 tabs)) s types.2 in
     let few = asks_ok 0 (leb (items_len tabs.0) 64) (rest types.0 tabs.0) s tabs.2 in
     let steps = bind_ok (or_shape 0 (option_and_then as_array (get (codes "steps") d))) (λ steps. with_types types.0 tabs.0 steps) s few.1 in
-    with_types_fits types.0 tabs.0 steps.0 s (few_processes (get (codes "processes") d) types.0 types.1) (leb-true (items_len tabs.0) 64 few.0) steps.2
+    with_types_fits types.0 tabs.0 steps.0 s (processes_fit (get (codes "processes") d) types.0 types.1) (leb-true (items_len tabs.0) 64 few.0) steps.2
 
-pub reading_fits : (bytes : List ℕ) (r : Result Scenario ReadFault) → Gives r (reading bytes) → IfOk r Fits
+pub reading_fits : (bytes : List ℕ) (r : Result Scenario ReadFault) → Gives is_memory r (reading bytes) → IfOk r Fits
 reading_fits bytes (Ok s) given = let a = bind_ok (or_unread (data_of bytes)) scenario_of s given in scenario_fits a.0 s a.2
 reading_fits bytes (Err fault) given = tt

@@ -24,11 +24,8 @@ object_of (object other) ms e = cc
 pub only_of_keys : (allowed : List ℕ → Bool) (d : Data) (es : List (String Global × Value)) → Some (members_view es) ≡ as_object d → list_all (λ k. allowed (string_bytes k)) (keys_of es) ≡ has_only allowed d
 only_of_keys allowed d es e = keys_named allowed es ∙ ap (has_only allowed) (sym (object_of d (members_view es) e))
 
-some_of_entries : (es : List (String Global × Value)) (b : Bool) → (IsTrue b → length es ≡ 0) → (length es ≡ 0 → IsTrue b) → not b ≡ has_member (object (members_view es))
-some_of_entries [] true to from = refl
-some_of_entries [] false to from = absurd (let t : false ≡ true = from refl in cc)
-some_of_entries (e ∷ es) true to from = absurd (omega (arith, to refl))
-some_of_entries (e ∷ es) false to from = refl
-
-pub member_of_entries : (d : Data) (es : List (String Global × Value)) (b : Bool) → Some (members_view es) ≡ as_object d → (IsTrue b → length es ≡ 0) → (length es ≡ 0 → IsTrue b) → not b ≡ has_member d
-member_of_entries d es b e to from = some_of_entries es b to from ∙ ap has_member (sym (object_of d (members_view es) e))
+pub member_of_entries : (es : List (String Global × Value)) (b : Bool) → (IsTrue b → length es ≡ 0) → (length es ≡ 0 → IsTrue b) → not b ≡ has_member (members_view es)
+member_of_entries [] true to from = refl
+member_of_entries [] false to from = absurd (let t : false ≡ true = from refl in cc)
+member_of_entries (e ∷ es) true to from = absurd (omega (arith, to refl))
+member_of_entries (e ∷ es) false to from = refl

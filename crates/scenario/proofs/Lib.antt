@@ -1,3 +1,4 @@
+pub mod Also
 pub mod Changes
 pub mod FitsReading
 pub mod Keys

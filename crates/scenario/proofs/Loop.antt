@@ -1,9 +1,11 @@
--- Reading items one after the other, as a loop does.
-use Rattle.std.proofs.Common.{◌≡◌, ℕ, List, [], ◌∷◌, ◌++◌, Result, Ok, Err, refl, sym, ap, ◌∙◌, append_assoc}
+-- Reading items one after the other, as a loop does, and the place of a fault.
+use Rattle.std.proofs.Common.{◌≡◌, ℕ, Bool, true, false, List, [], ◌∷◌, ◌++◌, Option, None, Some, Result, Ok, Err, refl, sym, ap, ◌∙◌, append_assoc}
 use Rattle.std.proofs.lemmas.List.{append-nil}
+use Rattle.std.specs.Prelude.{⊤}
 use Rattle.scenario.specs.declared.fault.ReadFault.{ReadFault}
 use Rattle.scenario.specs.declared.fault.ReadFault.TheVariants.{Unread, Shape, OutOfMemory}
-use Rattle.scenario.specs.Gives.{◌>>=◌, Fails}
+use Rattle.fission_ids.specs.Gives.{FailsWith}
+use Rattle.scenario.specs.Faults.{is_memory, ◌>>=◌, or_shape, asks}
 
 -- what was read before, and what is still read
 abbrev pub with_front : {A : Type 0} → List A → Result (List A) ReadFault → Result (List A) ReadFault
@@ -23,8 +25,8 @@ goes_on front one x rest after total turn read so_far =
     let first : with_front front rest ≡ with_front (front ++ x ∷ []) after = rw (turn, read) (regroup front x after) in
     sym first ∙ so_far
 
-pub ends : {A : Type 0} (fault : ReadFault) (front : List A) (one : Result A ReadFault) (rest after total : Result (List A) ReadFault) → rest ≡ and_then one after → Fails fault one
-    → with_front front rest ≡ total → Fails fault total
+pub ends : {A : Type 0} (fault : ReadFault) (front : List A) (one : Result A ReadFault) (rest after total : Result (List A) ReadFault) → rest ≡ and_then one after → FailsWith (is_memory fault) fault one
+    → with_front front rest ≡ total → FailsWith (is_memory fault) fault total
 ends OutOfMemory front one rest after total turn read so_far = tt
 ends Unread front one rest after total turn read so_far =
     let first : with_front front rest ≡ Err Unread = rw (turn, read) refl in
@@ -43,3 +45,29 @@ pub stops : {A : Type 0} (place : ℕ) (front : List A) (rest total : Result (Li
 stops place front rest total turn so_far =
     let all : with_front front rest ≡ Err (Shape place) = rw turn refl in
     sym so_far ∙ all
+
+-- a fault of the first step is one of both
+pub bind_fails : {A B : Type 0} (fault : ReadFault) (one : Result A ReadFault) (f : A → Result B ReadFault) (rest total : Result B ReadFault) → rest ≡ (one >>= f) → FailsWith (is_memory fault) fault one
+    → rest ≡ total → FailsWith (is_memory fault) fault total
+bind_fails OutOfMemory one f rest total turn read so_far = tt
+bind_fails Unread one f rest total turn read so_far = sym so_far ∙ turn ∙ ap (λ r. r >>= f) read
+bind_fails (Shape place) one f rest total turn read so_far = sym so_far ∙ turn ∙ ap (λ r. r >>= f) read
+
+-- ---- places of faults
+
+-- a fault, if there is one, is of shape and has this place
+abbrev pub FailsAt : {A : Type 0} → ℕ → Result A ReadFault → Type 0
+FailsAt place (Ok x) = ⊤
+FailsAt place (Err fault) = fault ≡ Shape place
+
+pub at_bind : {A B : Type 0} (place : ℕ) (r : Result A ReadFault) (f : A → Result B ReadFault) → FailsAt place r → ((x : A) → FailsAt place (f x)) → FailsAt place (r >>= f)
+at_bind place (Ok x) f first then = then x
+at_bind place (Err fault) f first then = first
+
+pub at_shape : {A : Type 0} (place : ℕ) (o : Option A) → FailsAt place (or_shape place o)
+at_shape place None = refl
+at_shape place (Some x) = tt
+
+pub at_asks : {A : Type 0} (place : ℕ) (b : Bool) (r : Result A ReadFault) → FailsAt place r → FailsAt place (asks place b r)
+at_asks place true r at = at
+at_asks place false r at = refl

@@ -10,10 +10,12 @@ use Rattle.fission_ids.specs.declared.process.ProcId.{ProcId}
 use Rattle.fission_ids.specs.declared.process.ProcSet.{ProcSet}
 use Rattle.fission_ids.specs.ProcSet.{has, with}
 use Rattle.scenario.specs.declared.fault.ReadFault.{ReadFault}
-use Rattle.scenario.specs.declared.fault.ReadFault.TheVariants.{Unread, Shape, OutOfMemory}
-use Rattle.scenario.specs.Gives.{◌>>=◌, asks, Fails}
-use Rattle.scenario.specs.Reading.{type_of, types_of, tab_of, tabs_of, process_of, also_of, line_of, lines_of}
-use Rattle.scenario.proofs.Loop.{and_then}
+use Rattle.scenario.specs.declared.fault.ReadFault.TheVariants.{Shape}
+use Rattle.fission_ids.specs.Gives.{FailsWith}
+use Rattle.scenario.specs.Faults.{is_memory, ◌>>=◌, asks}
+use Rattle.scenario.specs.Reading.{type_of, types_of, start_tab_of, start_tabs_of, process_of, line_of, lines_of}
+use Rattle.scenario.proofs.Loop.{and_then, bind_fails}
+use Rattle.scenario.proofs.Also.{also_from}
 
 pub items_len_view : (vs : List Value) → items_len (items_view vs) ≡ length vs
 items_len_view vs = items_len-items_view vs
@@ -30,12 +32,12 @@ unfolding types_of
 types_end vs i le = rw (drop_all i vs le) refl
 
 pub tabs_turn : (place n : ℕ) (vs : List Value) (i : ℕ) (v : Value) → i < length vs → v ≡ get_or vs i v
-    → tabs_of place n (items_view (drop i vs)) ≡ and_then (tab_of place n (view v)) (tabs_of (place + 1) n (items_view (drop (i + 1) vs)))
-unfolding tabs_of
-tabs_turn place n vs i v lt is = ap (λ xs. tabs_of place n (items_view xs)) (next_item vs i v lt is)
+    → start_tabs_of place n (items_view (drop i vs)) ≡ and_then (start_tab_of place n (view v)) (start_tabs_of (place + 1) n (items_view (drop (i + 1) vs)))
+unfolding start_tabs_of
+tabs_turn place n vs i v lt is = ap (λ xs. start_tabs_of place n (items_view xs)) (next_item vs i v lt is)
 
-pub tabs_end : (place n : ℕ) (vs : List Value) (i : ℕ) → length vs ≤ i → tabs_of place n (items_view (drop i vs)) ≡ Ok []
-unfolding tabs_of
+pub tabs_end : (place n : ℕ) (vs : List Value) (i : ℕ) → length vs ≤ i → start_tabs_of place n (items_view (drop i vs)) ≡ Ok []
+unfolding start_tabs_of
 tabs_end place n vs i le = rw (drop_all i vs le) refl
 
 pub lines_turn : (place n : ℕ) (vs : List Value) (i : ℕ) (v : Value) → i < length vs → v ≡ get_or vs i v → place ≤ 20000
@@ -54,28 +56,23 @@ unfolding lines_of
 lines_end place n vs i le = rw (drop_all i vs le) refl
 
 pub also_turn : (place n : ℕ) (owner : ProcId) (set : ProcSet) (vs : List Value) (i : ℕ) (v : Value) → i < length vs → v ≡ get_or vs i v
-    → also_of place n owner set (items_view (drop i vs)) ≡ (process_of place n (Some (view v)) >>= λ p. asks place (not (nat_eq p.0 owner.0) && not (has set p.0)) (also_of place n owner (with set p.0) (items_view (drop (i + 1) vs))))
-unfolding also_of
-also_turn place n owner set vs i v lt is = ap (λ xs. also_of place n owner set (items_view xs)) (next_item vs i v lt is)
+    → also_from place n owner set (items_view (drop i vs)) ≡ (process_of place n (Some (view v)) >>= λ p. asks place (not (nat_eq p.0 owner.0) && not (has set p.0)) (also_from place n owner (with set p.0) (items_view (drop (i + 1) vs))))
+unfolding also_from
+also_turn place n owner set vs i v lt is = ap (λ xs. also_from place n owner set (items_view xs)) (next_item vs i v lt is)
 
-pub also_end : (place n : ℕ) (owner : ProcId) (set : ProcSet) (vs : List Value) (i : ℕ) → length vs ≤ i → also_of place n owner set (items_view (drop i vs)) ≡ Ok set
-unfolding also_of
+pub also_end : (place n : ℕ) (owner : ProcId) (set : ProcSet) (vs : List Value) (i : ℕ) → length vs ≤ i → also_from place n owner set (items_view (drop i vs)) ≡ Ok set
+unfolding also_from
 also_end place n owner set vs i le = rw (drop_all i vs le) refl
 
 -- ---- the exits of the loop over `also`
 
-also_ends : (fault : ReadFault) (one : Result ProcId ReadFault) (f : ProcId → Result ProcSet ReadFault) (rest total : Result ProcSet ReadFault) → rest ≡ (one >>= f) → Fails fault one → rest ≡ total → Fails fault total
-also_ends OutOfMemory one f rest total turn read so_far = tt
-also_ends Unread one f rest total turn read so_far = sym so_far ∙ turn ∙ ap (λ r. r >>= f) read
-also_ends (Shape place) one f rest total turn read so_far = sym so_far ∙ turn ∙ ap (λ r. r >>= f) read
-
 pub also_fails : (fault : ReadFault) (place n : ℕ) (owner : ProcId) (set : ProcSet) (vs : List Value) (i : ℕ) (v : Value) (total : Result ProcSet ReadFault) → i < length vs → v ≡ get_or vs i v
-    → Fails fault (process_of place n (Some (view v))) → also_of place n owner set (items_view (drop i vs)) ≡ total → Fails fault total
-also_fails fault place n owner set vs i v total lt is read so_far = also_ends fault (process_of place n (Some (view v))) _ _ total (also_turn place n owner set vs i v lt is) read so_far
+    → FailsWith (is_memory fault) fault (process_of place n (Some (view v))) → also_from place n owner set (items_view (drop i vs)) ≡ total → FailsWith (is_memory fault) fault total
+also_fails fault place n owner set vs i v total lt is read so_far = bind_fails fault (process_of place n (Some (view v))) _ _ total (also_turn place n owner set vs i v lt is) read so_far
 
 pub also_asks : (place n : ℕ) (owner : ProcId) (set : ProcSet) (vs : List Value) (i : ℕ) (v : Value) (p : ProcId) (joins : Bool) (total : Result ProcSet ReadFault) → i < length vs → v ≡ get_or vs i v
-    → process_of place n (Some (view v)) ≡ Ok p → joins ≡ (not (nat_eq p.0 owner.0) && not (has set p.0)) → also_of place n owner set (items_view (drop i vs)) ≡ total
-    → total ≡ asks place joins (also_of place n owner (with set p.0) (items_view (drop (i + 1) vs)))
+    → process_of place n (Some (view v)) ≡ Ok p → joins ≡ (not (nat_eq p.0 owner.0) && not (has set p.0)) → also_from place n owner set (items_view (drop i vs)) ≡ total
+    → total ≡ asks place joins (also_from place n owner (with set p.0) (items_view (drop (i + 1) vs)))
 also_asks place n owner set vs i v p joins total lt is read test so_far =
-    let after = also_of place n owner (with set p.0) (items_view (drop (i + 1) vs)) in
-    sym so_far ∙ also_turn place n owner set vs i v lt is ∙ ap (λ r. r >>= λ p. asks place (not (nat_eq p.0 owner.0) && not (has set p.0)) (also_of place n owner (with set p.0) (items_view (drop (i + 1) vs)))) read ∙ ap (λ b. asks place b after) (sym test)
+    let after = also_from place n owner (with set p.0) (items_view (drop (i + 1) vs)) in
+    sym so_far ∙ also_turn place n owner set vs i v lt is ∙ ap (λ r. r >>= λ p. asks place (not (nat_eq p.0 owner.0) && not (has set p.0)) (also_from place n owner (with set p.0) (items_view (drop (i + 1) vs)))) read ∙ ap (λ b. asks place b after) (sym test)

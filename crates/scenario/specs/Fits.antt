@@ -1,6 +1,7 @@
 -- What holds of each scenario that is read.
 use Rattle.std.specs.Prelude.{ℕ, ◌<◌, ◌≤◌, length, ⊤}
 use Rattle.std.specs.List.{AllByRecursion}
+use Rattle.wire_msgs.specs.Config.{ConfigFits}
 use Rattle.journal.specs.Step.{StepFits}
 use Rattle.scenario.specs.declared.line.Actor.{Actor}
 use Rattle.scenario.specs.declared.line.Actor.TheVariants as actors
@@ -18,9 +19,8 @@ abbrev pub LineFits : ℕ → Line → Type 0
 LineFits n (lines.Step step) = StepFits n step
 LineFits n (lines.Show (shows.One who context field)) = ActorFits n who
 
--- at most 16 processes, at most 64 tabs, at most 20,000 steps, and process numbers that exist
+-- a run may begin so, and there are at most 20,000 steps, which name processes that exist
 pub record Fits (s : Scenario) : Type 0 where
-  pub processes : length s.config.types ≤ 16
-  pub tabs : length s.config.tabs ≤ 64
+  pub config : ConfigFits s.config
   pub steps : length s.lines ≤ 20000
   pub lines : AllByRecursion (LineFits (length s.config.types)) s.lines

@@ -1,4 +1,4 @@
-pub mod Gives
+pub mod Faults
 pub mod Members
 pub mod Reading
 pub mod Fits

@@ -1,6 +1,7 @@
 -- The members of a JSON object that a scenario is made of.
 use denote.Ref.{Bor}
-use Rattle.std.specs.Prelude.{ℕ, List, [], ◌∷◌, Bool, true, false, ◌&&◌, Option, None, Some, is_some, if◌then◌else◌, codes, option_and_then, option_map}
+use Rattle.std.specs.Prelude.{ℕ, List, [], ◌∷◌, Bool, true, false, ◌&&◌, Option, None, Some, is_some}
+use Rattle.std.specs.Prelude.{if◌then◌else◌, codes, option_and_then, option_map}
 use Rattle.std.specs.List.{list_any}
 use Rattle.std.specs.Str.{bytes_eq}
 use Rattle.serde_json.specs.Data.{Data, Members, no_members, member}
@@ -8,26 +9,19 @@ use Rattle.serde_json.specs.Find.{as_str, as_number, as_u64, as_object}
 use Rattle.serde_json.specs.View.{view}
 use Rattle.serde_json.specs.declared.value.Value.{Value}
 use Rattle.field_table.specs.declared.field.Field.{Field}
-use Rattle.field_table.specs.declared.field.Field.TheVariants.{CurrentInnerWindowId, OpenerId, FullZoom, TextZoom}
+use Rattle.field_table.specs.declared.field.Field.TheVariants.{CurrentInnerWindowId, OpenerId}
+use Rattle.field_table.specs.declared.field.Field.TheVariants.{FullZoom, TextZoom}
 use Rattle.field_table.specs.Field.{named}
 use Rattle.scenario.specs.declared.members.Kind.{Kind}
 use Rattle.scenario.specs.declared.members.Kind.TheVariants as kinds
 
--- the objects of a scenario, by the keys that they may have
-unfoldable pub top_keys : List (List ℕ)
-top_keys = codes "version" ∷ codes "processes" ∷ codes "tabs" ∷ codes "steps" ∷ []
-
-unfoldable pub tab_keys : List (List ℕ)
-tab_keys = codes "owner" ∷ codes "also" ∷ []
-
-unfoldable pub set_keys : List (List ℕ)
-set_keys = codes "do" ∷ codes "at" ∷ codes "context" ∷ codes "fields" ∷ []
-
-unfoldable pub take_keys : List (List ℕ)
-take_keys = codes "do" ∷ codes "at" ∷ []
-
-unfoldable pub show_keys : List (List ℕ)
-show_keys = codes "do" ∷ codes "at" ∷ codes "context" ∷ codes "field" ∷ []
+-- the keys that an object of this kind may have
+unfoldable pub object_keys : Kind → List (List ℕ)
+object_keys kinds.Top = codes "version" ∷ codes "processes" ∷ codes "tabs" ∷ codes "steps" ∷ []
+object_keys kinds.Tab = codes "owner" ∷ codes "also" ∷ []
+object_keys kinds.Set = codes "do" ∷ codes "at" ∷ codes "context" ∷ codes "fields" ∷ []
+object_keys kinds.Take = codes "do" ∷ codes "at" ∷ []
+object_keys kinds.Show = codes "do" ∷ codes "at" ∷ codes "context" ∷ codes "field" ∷ []
 
 -- whether the key is one of these
 abbrev pub is_among : List (List ℕ) → List ℕ → Bool
@@ -51,16 +45,11 @@ is_field_name k = is_some (field_named k)
 
 -- whether an object of this kind may have the key
 abbrev pub allows : Kind → List ℕ → Bool
-allows kinds.Top = is_among top_keys
-allows kinds.Tab = is_among tab_keys
-allows kinds.Set = is_among set_keys
-allows kinds.Take = is_among take_keys
-allows kinds.Show = is_among show_keys
-allows kinds.Fields = is_field_name
+allows kind = is_among (object_keys kind)
 
--- the value of a member that was found
-abbrev pub seen : Option (Bor Value) → Option Data
-seen found = option_map (λ v. view v.now) found
+-- the value of a member, if it was found
+abbrev pub data_found : Option (Bor Value) → Option Data
+data_found found = option_map (λ v. view v.now) found
 
 -- whether each member has a key that is allowed
 abbrev pub all_named : (List ℕ → Bool) → Members → Bool
@@ -75,14 +64,10 @@ has_only allowed d = all_members (as_object d)
     all_members None = false
     all_members (Some ms) = all_named allowed ms
 
--- whether a value is an object with a member
-abbrev pub has_member : Data → Bool
-has_member d = some_member (as_object d)
-  where
-    some_member : Option Members → Bool
-    some_member None = false
-    some_member (Some no_members) = false
-    some_member (Some (member k d ms)) = true
+-- whether an object has a member
+abbrev pub has_member : Members → Bool
+has_member no_members = false
+has_member (member k d ms) = true
 
 -- whether a member is there and is this text
 abbrev pub is_text : List ℕ → Option Data → Bool
@@ -93,5 +78,5 @@ is_text text found = matches (option_and_then as_str found)
     matches (Some s) = bytes_eq s text
 
 -- the number of a member, if it is one without a sign, a fraction or an exponent, below 2 ^ 64
-abbrev pub number_in : Option Data → Option ℕ
-number_in found = option_and_then (λ d. option_and_then as_u64 (as_number d)) found
+abbrev pub whole_number : Option Data → Option ℕ
+whole_number found = option_and_then (λ d. option_and_then as_u64 (as_number d)) found

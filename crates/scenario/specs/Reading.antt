@@ -1,16 +1,16 @@
--- What bytes read as: the scenario, or the first fault. A fault of shape tells its place: 0 for the top object,
--- 100000 + n for the n-th tab, n for the n-th step, 20001 for more than 20,000 steps.
-use Rattle.std.specs.Prelude.{ℕ, ◌+◌, List, [], ◌∷◌, length, Bool, not, ◌&&◌, ◌==◌, nat_lt, nat_le, if◌then◌else◌, Option, None, Some, Result, Ok, Err, codes, option_and_then}
+-- What bytes read as: the scenario, or the first fault. A fault of shape tells its place: 0 for the top
+-- object, 100000 + n for the n-th tab, n for the n-th step, 20001 for more than 20,000 steps.
+use Rattle.std.specs.Prelude.{◌+◌, ◌==◌, ◌&&◌, ℕ, List, [], ◌∷◌, length, Bool, true, not, nat_lt, nat_le}
+use Rattle.std.specs.Prelude.{if◌then◌else◌, Option, None, Some, Result, Ok, Err, codes, option_and_then}
 use Rattle.std.specs.List.{list_all}
-use Rattle.std.specs.Char.{is_ascii_graphic}
 use Rattle.std.specs.Str.{is_utf8}
-use Rattle.serde_json.specs.Data.{Data, Items, no_items, item}
+use Rattle.serde_json.specs.Data.{Data, Items, no_items, item, Members}
 use Rattle.serde_json.specs.Read.{read as read_text}
 use Rattle.serde_json.specs.Events.{items_len}
-use Rattle.serde_json.specs.Find.{get, as_str, as_array}
+use Rattle.serde_json.specs.Find.{get, get_member, as_str, as_array, as_object}
 use Rattle.fission_ids.specs.declared.process.ProcId.{ProcId}
 use Rattle.fission_ids.specs.declared.process.ProcSet.{ProcSet}
-use Rattle.fission_ids.specs.ProcSet.{has, with}
+use Rattle.fission_ids.specs.ProcSet.{with}
 use Rattle.fission_ids.specs.declared.context.ContextId.{ContextId}
 use Rattle.fission_ids.specs.Ids.{context_of}
 use Rattle.field_table.specs.declared.field.Field.{Field}
@@ -21,6 +21,7 @@ use Rattle.field_table.specs.Reading.{value_of}
 use Rattle.transaction.specs.Transaction.{Changes}
 use Rattle.wire_msgs.specs.declared.action.ParentAction.TheVariants as actions
 use Rattle.wire_msgs.specs.declared.config.StartTab.{StartTab}
+use Rattle.wire_msgs.specs.Config.{is_remote_type}
 use Rattle.journal.specs.declared.entry.Step.TheVariants as steps
 use Rattle.scenario.specs.declared.fault.ReadFault.{ReadFault}
 use Rattle.scenario.specs.declared.fault.ReadFault.TheVariants.{Unread, Shape}
@@ -30,14 +31,12 @@ use Rattle.scenario.specs.declared.line.Show.TheVariants as shows
 use Rattle.scenario.specs.declared.line.Line.{Line}
 use Rattle.scenario.specs.declared.line.Line.TheVariants as lines
 use Rattle.scenario.specs.declared.line.Scenario.{Scenario}
-use Rattle.scenario.specs.Gives.{◌>>=◌, or_shape, asks}
-use Rattle.scenario.specs.Members.{top_keys, tab_keys, set_keys, take_keys, show_keys, is_among, field_named, is_field_name, has_only, has_member, is_text, number_in}
+use Rattle.scenario.specs.declared.members.Kind.TheVariants as kinds
+use Rattle.scenario.specs.Faults.{◌>>=◌, or_shape, asks}
+use Rattle.scenario.specs.Members.{allows, field_named, is_field_name, all_named}
+use Rattle.scenario.specs.Members.{has_only, has_member, is_text, whole_number}
 
 -- ---- processes and tabs
-
--- whether a text is a remote type
-abbrev pub is_remote_type : List ℕ → Bool
-is_remote_type s = nat_lt 0 (length s) && nat_le (length s) 128 && list_all is_ascii_graphic s
 
 unfoldable pub type_of : Data → Result (List ℕ) ReadFault
 type_of d = or_shape 0 (as_str d) >>= λ s. asks 0 (is_remote_type s) (Ok s)
@@ -48,30 +47,58 @@ types_of (item d ds) = type_of d >>= λ t. types_of ds >>= λ ts. Ok (t ∷ ts)
 
 -- 1 to 16 remote types
 unfoldable pub processes_of : Option Data → Result (List (List ℕ)) ReadFault
-processes_of found = or_shape 0 (option_and_then as_array found) >>= λ ds. asks 0 (nat_lt 0 (items_len ds) && nat_le (items_len ds) 16) (types_of ds)
+processes_of found =
+    or_shape 0 (option_and_then as_array found) >>= λ ds.
+    asks 0 (nat_lt 0 (items_len ds) && nat_le (items_len ds) 16) (types_of ds)
 
 -- the number of one of n processes
 unfoldable pub process_of : ℕ → ℕ → Option Data → Result ProcId ReadFault
-process_of place n found = or_shape place (number_in found) >>= λ p. asks place (nat_lt p n) (Ok (record { 0 = p }))
+process_of place n found =
+    or_shape place (whole_number found) >>= λ p. asks place (nat_lt p n) (Ok (record { 0 = p }))
 
 -- the items of a member that may be left out
 abbrev pub items_in : ℕ → Option Data → Result Items ReadFault
 items_in place None = Ok no_items
 items_in place (Some d) = or_shape place (as_array d)
 
--- process numbers that differ from the owner and from each other, beside those of the set
-unfoldable pub also_of : ℕ → ℕ → ProcId → ProcSet → Items → Result ProcSet ReadFault
-also_of place n owner set no_items = Ok set
-also_of place n owner set (item d ds) = process_of place n (Some d) >>= λ p. asks place (not (p.0 == owner.0) && not (has set p.0)) (also_of place n owner (with set p.0) ds)
+-- the number of one of n processes, for each item
+unfoldable pub process_numbers : ℕ → ℕ → Items → Result (List ProcId) ReadFault
+process_numbers place n no_items = Ok []
+process_numbers place n (item d ds) =
+    process_of place n (Some d) >>= λ p. process_numbers place n ds >>= λ ps. Ok (p ∷ ps)
 
-unfoldable pub tab_of : ℕ → ℕ → Data → Result StartTab ReadFault
-tab_of place n d =
-    asks place (has_only (is_among tab_keys) d)
-    (process_of place n (get (codes "owner") d) >>= λ owner. items_in place (get (codes "also") d) >>= λ ds. also_of place n owner (record { 0 = 0 }) ds >>= λ also. Ok (record { owner = owner; also = also }))
+-- whether no process is there twice
+abbrev pub all_differ : List ProcId → Bool
+all_differ [] = true
+all_differ (p ∷ ps) = list_all (λ q. not (q.0 == p.0)) ps && all_differ ps
 
-unfoldable pub tabs_of : ℕ → ℕ → Items → Result (List StartTab) ReadFault
-tabs_of place n no_items = Ok []
-tabs_of place n (item d ds) = tab_of place n d >>= λ t. tabs_of (place + 1) n ds >>= λ ts. Ok (t ∷ ts)
+-- whether the owner isn't among them
+abbrev pub are_others : ProcId → List ProcId → Bool
+are_others owner ps = list_all (λ p. not (p.0 == owner.0)) ps
+
+-- the set of these processes
+abbrev pub proc_set_of : List ProcId → ProcSet
+proc_set_of [] = record { 0 = 0 }
+proc_set_of (p ∷ ps) = with (proc_set_of ps) p.0
+
+-- process numbers that differ from the owner and from each other
+unfoldable pub also_of : ℕ → ℕ → ProcId → Items → Result ProcSet ReadFault
+also_of place n owner ds =
+    process_numbers place n ds >>= λ ps.
+    asks place (are_others owner ps && all_differ ps) (Ok (proc_set_of ps))
+
+unfoldable pub start_tab_of : ℕ → ℕ → Data → Result StartTab ReadFault
+start_tab_of place n d =
+    asks place (has_only (allows kinds.Tab) d)
+    (process_of place n (get (codes "owner") d) >>= λ owner.
+    items_in place (get (codes "also") d) >>= λ ds.
+    also_of place n owner ds >>= λ also.
+    Ok (record { owner = owner; also = also }))
+
+unfoldable pub start_tabs_of : ℕ → ℕ → Items → Result (List StartTab) ReadFault
+start_tabs_of place n no_items = Ok []
+start_tabs_of place n (item d ds) =
+    start_tab_of place n d >>= λ t. start_tabs_of (place + 1) n ds >>= λ ts. Ok (t ∷ ts)
 
 -- ---- steps
 
@@ -90,66 +117,93 @@ change_of place f None = Ok None
 change_of place f (Some d) = or_no_value place (value_of (kind f) d) >>= λ v. Ok (Some v)
 
 -- the new values of these fields
-unfoldable pub changes_of : ℕ → List Field → Data → Result Changes ReadFault
-changes_of place [] d = Ok []
-changes_of place (f ∷ fs) d = change_of place f (get (name f) d) >>= λ c. changes_of place fs d >>= λ cs. Ok (c ∷ cs)
+unfoldable pub changes_of : ℕ → List Field → Members → Result Changes ReadFault
+changes_of place [] ms = Ok []
+changes_of place (f ∷ fs) ms =
+    change_of place f (get_member (name f) ms) >>= λ c. changes_of place fs ms >>= λ cs. Ok (c ∷ cs)
+
+-- the new values of the fields, where each key is one that may be named
+abbrev pub named_changes : ℕ → Members → Result Changes ReadFault
+named_changes place ms = asks place (all_named is_field_name ms) (changes_of place fields ms)
+
+-- a field that may be named, and its new value
+abbrev pub named_change : ℕ → List ℕ → Data → Result (Field × Value) ReadFault
+named_change place key d =
+    or_shape place (field_named key) >>= λ f.
+    or_no_value place (value_of (kind f) d) >>= λ v. Ok (f, v)
 
 -- an object of one field at least, and its value
 unfoldable pub transaction_of : ℕ → Option Data → Result Changes ReadFault
-transaction_of place found = or_shape place found >>= λ d. asks place (has_only is_field_name d) (asks place (has_member d) (changes_of place fields d))
+transaction_of place found =
+    or_shape place (option_and_then as_object found) >>= λ ms.
+    asks place (has_member ms) (named_changes place ms)
 
-unfoldable pub set_of : ℕ → Data → Result Line ReadFault
-set_of place d =
-    asks place (has_only (is_among set_keys) d)
+-- fields that the parent writes
+unfoldable pub set_line : ℕ → Data → Result Line ReadFault
+set_line place d =
+    asks place (has_only (allows kinds.Set) d)
     (asks place (is_text (codes "parent") (get (codes "at") d))
-    (context_at place (get (codes "context") d) >>= λ context. transaction_of place (get (codes "fields") d) >>= λ t.
+    (context_at place (get (codes "context") d) >>= λ context.
+    transaction_of place (get (codes "fields") d) >>= λ t.
     Ok (lines.Step (steps.ParentAct (actions.Set context t)))))
 
-unfoldable pub take_of : ℕ → ℕ → Data → Result Line ReadFault
-take_of place n d =
-    asks place (has_only (is_among take_keys) d)
+-- a bundle that a process takes
+unfoldable pub take_line : ℕ → ℕ → Data → Result Line ReadFault
+take_line place n d =
+    asks place (has_only (allows kinds.Take) d)
     (process_of place n (get (codes "at") d) >>= λ p. Ok (lines.Step (steps.Take p)))
 
 -- the parent, or the number of a process
 unfoldable pub actor_of : ℕ → ℕ → Option Data → Result Actor ReadFault
-actor_of place n found = if is_text (codes "parent") found then Ok actors.Parent else (process_of place n found >>= λ p. Ok (actors.Process p))
+actor_of place n found =
+    if is_text (codes "parent") found then Ok actors.Parent
+    else (process_of place n found >>= λ p. Ok (actors.Process p))
 
 unfoldable pub field_of : ℕ → Option Data → Result Field ReadFault
 field_of place found = or_shape place (option_and_then field_named (option_and_then as_str found))
 
-unfoldable pub show_of : ℕ → ℕ → Data → Result Line ReadFault
-show_of place n d =
-    asks place (has_only (is_among show_keys) d)
-    (actor_of place n (get (codes "at") d) >>= λ who. context_at place (get (codes "context") d) >>= λ context. field_of place (get (codes "field") d) >>= λ f.
+-- a field of a context that is shown, as one side has it
+unfoldable pub show_line : ℕ → ℕ → Data → Result Line ReadFault
+show_line place n d =
+    asks place (has_only (allows kinds.Show) d)
+    (actor_of place n (get (codes "at") d) >>= λ who.
+    context_at place (get (codes "context") d) >>= λ context.
+    field_of place (get (codes "field") d) >>= λ f.
     Ok (lines.Show (shows.One who context f)))
 
 -- a step, by what it does
 unfoldable pub line_of : ℕ → ℕ → Data → Result Line ReadFault
 line_of place n d =
-    if is_text (codes "set") (get (codes "do") d) then set_of place d
-    else (if is_text (codes "take") (get (codes "do") d) then take_of place n d
-    else (if is_text (codes "show") (get (codes "do") d) then show_of place n d
+    if is_text (codes "set") (get (codes "do") d) then set_line place d
+    else (if is_text (codes "take") (get (codes "do") d) then take_line place n d
+    else (if is_text (codes "show") (get (codes "do") d) then show_line place n d
     else Err (Shape place)))
 
 -- the steps from this place on, of which there are at most 20,000
 unfoldable pub lines_of : ℕ → ℕ → Items → Result (List Line) ReadFault
 lines_of place n no_items = Ok []
-lines_of place n (item d ds) = asks 20001 (nat_le place 20000) (line_of place n d >>= λ l. lines_of (place + 1) n ds >>= λ ls. Ok (l ∷ ls))
+lines_of place n (item d ds) =
+    asks 20001 (nat_le place 20000)
+    (line_of place n d >>= λ l. lines_of (place + 1) n ds >>= λ ls. Ok (l ∷ ls))
 
 -- ---- the whole
 
 -- the scenario of these processes
 abbrev pub with_types : List (List ℕ) → Items → Items → Result Scenario ReadFault
 with_types types tabs steps =
-    tabs_of 100001 (length types) tabs >>= λ tabs. lines_of 1 (length types) steps >>= λ lines.
+    start_tabs_of 100001 (length types) tabs >>= λ tabs.
+    lines_of 1 (length types) steps >>= λ lines.
     Ok (record { config = record { types = types; tabs = tabs }; lines = lines })
 
--- the scenario of a JSON value; n is the number of its processes
+-- the scenario of a JSON value
 unfoldable pub scenario_of : Data → Result Scenario ReadFault
 scenario_of d =
-    asks 0 (has_only (is_among top_keys) d)
-    (or_shape 0 (number_in (get (codes "version") d)) >>= λ version. asks 0 (version == 1)
-    (processes_of (get (codes "processes") d) >>= λ types. items_in 0 (get (codes "tabs") d) >>= λ tabs. asks 0 (nat_le (items_len tabs) 64)
+    asks 0 (has_only (allows kinds.Top) d)
+    (or_shape 0 (whole_number (get (codes "version") d)) >>= λ version.
+    asks 0 (version == 1)
+    (processes_of (get (codes "processes") d) >>= λ types.
+    items_in 0 (get (codes "tabs") d) >>= λ tabs.
+    asks 0 (nat_le (items_len tabs) 64)
     (or_shape 0 (option_and_then as_array (get (codes "steps") d)) >>= λ steps.
     with_types types tabs steps)))
 

@@ -1,5 +1,6 @@
 //! A scenario: how a run begins, and what is done and shown in it, read from JSON.
-//! What a byte string reads as is a function of the bytes, and a fault tells the first place where it's wrong.
+//! What a byte string reads as is a function of the bytes, and a fault tells the first place where it's
+//! wrong.
 //! Nothing here plays a scenario.
 #![tactic(auto)]
 
@@ -21,6 +22,9 @@ fn crosses<T: Send + Sync>() {}
 
 // The types of this crate may go to another thread, and be shared.
 fn types_cross() {
+    crosses::<Actor>();
+    crosses::<Show>();
+    crosses::<Line>();
     crosses::<Scenario>();
     crosses::<ReadFault>();
 }

@@ -1,8 +1,9 @@
 ghost use Rattle.std.specs.Prelude.{◌≡◌, Bool, string_bytes};
 ghost use Rattle.std.specs.List.{list_all};
 ghost use Rattle.std.specs.BTreeMap.{keys};
-ghost use Rattle.serde_json.specs.View.{view};
-ghost use Rattle.scenario.specs.Members.{allows, field_named, has_only, has_member, is_text, may_be_named, number_in, seen};
+ghost use Rattle.serde_json.specs.View.{view, members_view};
+ghost use Rattle.scenario.specs.Members.{allows, field_named, may_be_named, data_found};
+ghost use Rattle.scenario.specs.Members.{has_only, has_member, is_text, whole_number};
 
 use field_table::Field;
 use serde_json::{Map, Value};
@@ -10,13 +11,16 @@ use serde_json::{Map, Value};
 /// An object of a scenario, by the keys that it may have.
 #[derive(Clone, Copy)]
 pub enum Kind {
+    /// The whole scenario.
     Top,
+    /// A tab that is open at the start.
     Tab,
+    /// A step that writes fields.
     Set,
+    /// A step that takes a bundle.
     Take,
+    /// A step that shows a field.
     Show,
-    /// The fields that a step sets.
-    Fields,
 }
 
 /// Whether the value is an object and has no key that its kind doesn't name.
@@ -35,7 +39,7 @@ fn all_allowed(kind: Kind, members: &Map<String, Value>) -> bool
     members.keys().all(|key| allows(kind, key.as_str()))
 }
 
-#[tactic(auto, unfolding(crate::specs::Members::top_keys, crate::specs::Members::tab_keys, crate::specs::Members::set_keys, crate::specs::Members::take_keys, crate::specs::Members::show_keys))]
+#[tactic(auto, unfolding(crate::specs::Members::object_keys))]
 fn allows(kind: Kind, key: &str) -> bool
     ensures { result ≡ allows kind key.now }
 {
@@ -45,7 +49,6 @@ fn allows(kind: Kind, key: &str) -> bool
         Kind::Set => key == "do" || key == "at" || key == "context" || key == "fields",
         Kind::Take => key == "do" || key == "at",
         Kind::Show => key == "do" || key == "at" || key == "context" || key == "field",
-        Kind::Fields => field_named(key).is_some(),
     }
 }
 
@@ -66,19 +69,16 @@ fn may_be_named(f: Field) -> bool
     }
 }
 
-/// Whether the value is an object with a member.
-pub fn has_member(v: &Value) -> bool
-    ensures { result ≡ has_member (view v.now) }
+/// Whether an object has a member.
+pub fn has_member(members: &Map<String, Value>) -> bool
+    ensures { result ≡ has_member (members_view members.now.entries) }
 {
-    match v.as_object() {
-        None => false,
-        Some(members) => !members.is_empty(),
-    }
+    !members.is_empty()
 }
 
 /// Whether a member is there and is this text.
 pub fn is_text(found: Option<&Value>, text: &str) -> bool
-    ensures { result ≡ is_text text.now (seen found.entry) }
+    ensures { result ≡ is_text text.now (data_found found.entry) }
 {
     match found.and_then(Value::as_str) {
         None => false,
@@ -87,8 +87,8 @@ pub fn is_text(found: Option<&Value>, text: &str) -> bool
 }
 
 /// The number of a member, if it's a whole one from 0 on, below 2^64.
-pub fn number_in(found: Option<&Value>) -> Option<u64>
-    ensures { result ≡ number_in (seen found.entry) }
+pub fn whole_number(found: Option<&Value>) -> Option<u64>
+    ensures { result ≡ whole_number (data_found found.entry) }
 {
     found.and_then(Value::as_u64)
 }

@@ -1,15 +1,18 @@
 ghost use Rattle.std.specs.Prelude.{◌≡◌, ◌<◌, ◌≤◌, ◌==◌, ◌&&◌, not, length, option_and_then, IfOk};
 ghost use Rattle.std.specs.List.{list_all};
 ghost use Rattle.std.specs.Char.{is_ascii_graphic};
+ghost use Rattle.fission_ids.specs.Gives.{Gives, GivesBy};
 ghost use Rattle.fission_ids.specs.ProcSet.{has};
 ghost use Rattle.serde_json.specs.Find.{as_array};
 ghost use Rattle.serde_json.specs.View.{view, items_view};
-ghost use Rattle.scenario.specs.Gives.{Gives, GivesBy, or_shape};
-ghost use Rattle.scenario.specs.Members.{seen};
-ghost use Rattle.scenario.specs.Reading.{is_remote_type, type_of, types_of, processes_of, process_of, items_in, also_of, tab_of, tabs_of};
+ghost use Rattle.wire_msgs.specs.Config.{is_remote_type};
+ghost use Rattle.scenario.specs.Faults.{is_memory, or_shape};
+ghost use Rattle.scenario.specs.Members.{data_found};
+ghost use Rattle.scenario.specs.Reading.{type_of, types_of, processes_of, process_of, items_in};
+ghost use Rattle.scenario.specs.Reading.{also_of, start_tab_of, start_tabs_of};
 
 use crate::fault::ReadFault;
-use crate::members::{Kind, has_only, number_in};
+use crate::members::{Kind, has_only, whole_number};
 use fission_ids::{ProcId, ProcSet, Seq, Text};
 use serde_json::Value;
 use std::alloc::Global;
@@ -24,7 +27,7 @@ const FIRST_TAB: u32 = 100_001;
 /// The remote types of the processes.
 #[tactic(auto, using(crate::proofs::Turns::items_len_view), unfolding(crate::specs::Reading::processes_of))]
 pub fn processes_of(alloc: Global, found: Option<&Value>) -> Result<Seq<Text>, ReadFault>
-    ensures exact { Gives result (processes_of (seen found.entry)) }
+    ensures exact { Gives is_memory result (processes_of (data_found found.entry)) }
     ensures few { IfOk result (λ types. length types ≤ 16) }
 {
     let values = array_in(0, found)?;
@@ -38,7 +41,7 @@ pub fn processes_of(alloc: Global, found: Option<&Value>) -> Result<Seq<Text>, R
 }
 
 fn types_of(alloc: Global, values: &[Value]) -> Result<Seq<Text>, ReadFault>
-    ensures exact { Gives result (types_of (items_view values.now)) }
+    ensures exact { Gives is_memory result (types_of (items_view values.now)) }
     ensures len { IfOk result (λ types. length types ≡ length values.now) }
 {
     let mut types = Seq::new(alloc);
@@ -50,7 +53,7 @@ fn types_of(alloc: Global, values: &[Value]) -> Result<Seq<Text>, ReadFault>
 
 #[tactic(auto, unfolding(crate::specs::Reading::type_of))]
 fn type_of(alloc: Global, v: &Value) -> Result<Text, ReadFault>
-    ensures { Gives result (type_of (view v.now)) }
+    ensures { Gives is_memory result (type_of (view v.now)) }
 {
     let Some(s) = v.as_str() else {
         return Err(ReadFault::Shape { place: 0 });
@@ -77,10 +80,10 @@ fn is_graphic(s: &str) -> bool
 /// The number of one of `count` processes.
 #[tactic(auto, unfolding(crate::specs::Reading::process_of))]
 pub fn process_of(place: u32, count: u8, found: Option<&Value>) -> Result<ProcId, ReadFault>
-    ensures exact { Gives result (process_of place count (seen found.entry)) }
+    ensures exact { Gives is_memory result (process_of place count (data_found found.entry)) }
     ensures below { IfOk result (λ p. p.0 < count) }
 {
-    match number_in(found) {
+    match whole_number(found) {
         Some(p) if p < u64::from(count) => Ok(ProcId(p as u8)),
         _ => Err(ReadFault::Shape { place }),
     }
@@ -88,7 +91,8 @@ pub fn process_of(place: u32, count: u8, found: Option<&Value>) -> Result<ProcId
 
 /// The items of a member that is an array.
 pub fn array_in(place: u32, found: Option<&Value>) -> Result<&[Value], ReadFault>
-    ensures { GivesBy (λ vs. items_view vs.now) result (or_shape place (option_and_then as_array (seen found.entry))) }
+    ensures { let items = option_and_then as_array (data_found found.entry) in
+        GivesBy is_memory (λ vs. items_view vs.now) result (or_shape place items) }
 {
     match found.and_then(Value::as_array) {
         None => Err(ReadFault::Shape { place }),
@@ -98,7 +102,7 @@ pub fn array_in(place: u32, found: Option<&Value>) -> Result<&[Value], ReadFault
 
 /// The items of a member that may be left out.
 pub fn items_in(place: u32, found: Option<&Value>) -> Result<&[Value], ReadFault>
-    ensures { GivesBy (λ vs. items_view vs.now) result (items_in place (seen found.entry)) }
+    ensures { GivesBy is_memory (λ vs. items_view vs.now) result (items_in place (data_found found.entry)) }
 {
     match found {
         None => Ok(&[]),
@@ -107,24 +111,24 @@ pub fn items_in(place: u32, found: Option<&Value>) -> Result<&[Value], ReadFault
 }
 
 /// The tabs that are open at the start.
-pub fn tabs_of(alloc: Global, count: u8, values: &[Value]) -> Result<Seq<StartTab>, ReadFault>
+pub fn start_tabs_of(alloc: Global, count: u8, values: &[Value]) -> Result<Seq<StartTab>, ReadFault>
     requires count { count ≤ 16 }
     requires few { length values.now ≤ 64 }
-    ensures exact { Gives result (tabs_of 100001 count (items_view values.now)) }
+    ensures exact { Gives is_memory result (start_tabs_of 100001 count (items_view values.now)) }
 {
     let mut tabs = Seq::new(alloc);
     let mut place = FIRST_TAB;
     for v in values {
-        tabs.push(tab_of(place, count, v)?)?;
+        tabs.push(start_tab_of(place, count, v)?)?;
         place += 1;
     }
     Ok(tabs)
 }
 
-#[tactic(auto, unfolding(crate::specs::Reading::tab_of))]
-fn tab_of(place: u32, count: u8, v: &Value) -> Result<StartTab, ReadFault>
+#[tactic(auto, unfolding(crate::specs::Reading::start_tab_of))]
+fn start_tab_of(place: u32, count: u8, v: &Value) -> Result<StartTab, ReadFault>
     requires { count ≤ 16 }
-    ensures { Gives result (tab_of place count (view v.now)) }
+    ensures { Gives is_memory result (start_tab_of place count (view v.now)) }
 {
     if !has_only(v, Kind::Tab) {
         return Err(ReadFault::Shape { place });
@@ -135,9 +139,10 @@ fn tab_of(place: u32, count: u8, v: &Value) -> Result<StartTab, ReadFault>
     Ok(StartTab { owner, also })
 }
 
+#[tactic(auto, using(crate::proofs::Also::also_is))]
 fn also_of(place: u32, count: u8, owner: ProcId, values: &[Value]) -> Result<ProcSet, ReadFault>
     requires { count ≤ 16 }
-    ensures { Gives result (also_of place count owner (record { 0 = 0 }) (items_view values.now)) }
+    ensures { Gives is_memory result (also_of place count owner (items_view values.now)) }
 {
     let mut also = ProcSet::EMPTY;
     for v in values {

@@ -1,13 +1,14 @@
 ghost use Rattle.std.specs.Prelude.{◌≤◌, length, IfOk};
 ghost use Rattle.serde_json.specs.View.{view, items_view};
-ghost use Rattle.scenario.specs.Gives.{Gives, GivesBy};
+ghost use Rattle.fission_ids.specs.Gives.{Gives, GivesBy};
+ghost use Rattle.scenario.specs.Faults.{is_memory};
 ghost use Rattle.scenario.specs.Reading.{reading, scenario_of, data_of, or_unread, with_types};
 ghost use Rattle.scenario.specs.Fits.{Fits};
 
 use crate::fault::ReadFault;
 use crate::line::Scenario;
-use crate::members::{Kind, has_only, number_in};
-use crate::processes::{array_in, items_in, processes_of, tabs_of};
+use crate::members::{Kind, has_only, whole_number};
+use crate::processes::{array_in, items_in, processes_of, start_tabs_of};
 use crate::steps::lines_of;
 use fission_ids::{Seq, Text};
 use serde_json::Value;
@@ -21,22 +22,22 @@ const MAX_TABS: usize = 64;
 /// The scenario that all the bytes read as, or why they don't.
 pub fn read(alloc: Global, bytes: &[u8]) -> Result<Scenario, ReadFault>
     // The scenario or the first fault, unless memory is wanting.
-    ensures exact { Gives result (reading bytes.now) }
-    // Its processes, tabs and steps are few enough, and its process numbers exist.
+    ensures exact { Gives is_memory result (reading bytes.now) }
+    // A run may begin so, its steps are few enough, and their process numbers exist.
     ensures fits { IfOk result Fits }
 {
     whole(alloc, bytes)
 }
 
 fn whole(alloc: Global, bytes: &[u8]) -> Result<Scenario, ReadFault>
-    ensures { Gives result (reading bytes.now) }
+    ensures { Gives is_memory result (reading bytes.now) }
 {
     let v = value_of_bytes(alloc, bytes)?;
     scenario_of(alloc, &v)
 }
 
 fn value_of_bytes(alloc: Global, bytes: &[u8]) -> Result<Value, ReadFault>
-    ensures { GivesBy view result (or_unread (data_of bytes.now)) }
+    ensures { GivesBy is_memory view result (or_unread (data_of bytes.now)) }
 {
     match Value::from_slice(alloc, bytes) {
         Ok(v) => Ok(v),
@@ -52,12 +53,12 @@ fn value_of_bytes(alloc: Global, bytes: &[u8]) -> Result<Value, ReadFault>
 
 #[tactic(auto, using(crate::proofs::Turns::items_len_view), unfolding(crate::specs::Reading::scenario_of))]
 fn scenario_of(alloc: Global, v: &Value) -> Result<Scenario, ReadFault>
-    ensures { Gives result (scenario_of (view v.now)) }
+    ensures { Gives is_memory result (scenario_of (view v.now)) }
 {
     if !has_only(v, Kind::Top) {
         return Err(ReadFault::Shape { place: 0 });
     }
-    if number_in(v.get("version")) != Some(VERSION) {
+    if whole_number(v.get("version")) != Some(VERSION) {
         return Err(ReadFault::Shape { place: 0 });
     }
     let types = processes_of(alloc, v.get("processes"))?;
@@ -78,10 +79,10 @@ fn with_types(
 ) -> Result<Scenario, ReadFault>
     requires types { length types ≤ 16 }
     requires tabs { length tabs.now ≤ 64 }
-    ensures { Gives result (with_types types (items_view tabs.now) (items_view steps.now)) }
+    ensures { Gives is_memory result (with_types types (items_view tabs.now) (items_view steps.now)) }
 {
     let count = types.len() as u8;
-    let tabs = tabs_of(alloc, count, tabs)?;
+    let tabs = start_tabs_of(alloc, count, tabs)?;
     let lines = lines_of(alloc, count, steps)?;
     Ok(Scenario {
         config: Config { types, tabs },

@@ -1,21 +1,24 @@
-ghost use Rattle.std.specs.Prelude.{◌≡◌, ◌≤◌, true, IfOk};
-ghost use Rattle.serde_json.specs.View.{view, items_view};
-ghost use Rattle.field_table.specs.Field.{fields, kind};
+ghost use Rattle.std.specs.Prelude.{◌≡◌, ◌≤◌, true, option_and_then, IfOk};
+ghost use Rattle.serde_json.specs.Find.{as_object};
+ghost use Rattle.serde_json.specs.View.{view, items_view, members_view};
+ghost use Rattle.field_table.specs.Field.{kind};
 ghost use Rattle.field_table.specs.Reading.{value_of};
 ghost use Rattle.field_table.specs.Value.{is_of};
-ghost use Rattle.transaction.specs.Transaction.{are_of};
-ghost use Rattle.scenario.specs.Gives.{Gives};
-ghost use Rattle.scenario.specs.Members.{seen};
-ghost use Rattle.scenario.specs.Reading.{lines_of, line_of, set_of, take_of, show_of, context_at, actor_of, field_of, transaction_of, changes_of, change_of, or_no_value};
+ghost use Rattle.fission_ids.specs.Gives.{Gives, GivesBy};
+ghost use Rattle.scenario.specs.Faults.{is_memory, or_shape};
+ghost use Rattle.scenario.specs.Members.{data_found};
+ghost use Rattle.scenario.specs.Reading.{lines_of, line_of, set_line, take_line, show_line};
+ghost use Rattle.scenario.specs.Reading.{context_at, actor_of, field_of};
+ghost use Rattle.scenario.specs.Reading.{transaction_of, named_changes, named_change, or_no_value};
 
 use crate::fault::ReadFault;
 use crate::line::{Actor, Line, Show};
 use crate::members::{Kind, field_named, has_member, has_only, is_text};
 use crate::processes::process_of;
 use field_table::{Field, ValueFault};
-use fission_ids::{ContextId, Seq};
+use fission_ids::{ContextId, Kept, Seq};
 use journal::Step;
-use serde_json::Value;
+use serde_json::{Map, Value};
 use std::alloc::Global;
 use transaction::Transaction;
 use wire_msgs::ParentAction;
@@ -25,7 +28,7 @@ const MAX_STEPS: u32 = 20_000;
 /// The steps, of which there are at most 20,000.
 pub fn lines_of(alloc: Global, count: u8, values: &[Value]) -> Result<Seq<Line>, ReadFault>
     requires { count ≤ 16 }
-    ensures { Gives result (lines_of 1 count (items_view values.now)) }
+    ensures { Gives is_memory result (lines_of 1 count (items_view values.now)) }
 {
     let mut lines = Seq::new(alloc);
     let mut place = 1;
@@ -43,22 +46,22 @@ pub fn lines_of(alloc: Global, count: u8, values: &[Value]) -> Result<Seq<Line>,
 
 #[tactic(auto, unfolding(crate::specs::Reading::line_of))]
 fn line_of(alloc: Global, place: u32, count: u8, v: &Value) -> Result<Line, ReadFault>
-    ensures { Gives result (line_of place count (view v.now)) }
+    ensures { Gives is_memory result (line_of place count (view v.now)) }
 {
     if is_text(v.get("do"), "set") {
-        set_of(alloc, place, v)
+        set_line(alloc, place, v)
     } else if is_text(v.get("do"), "take") {
-        take_of(place, count, v)
+        take_line(place, count, v)
     } else if is_text(v.get("do"), "show") {
-        show_of(place, count, v)
+        show_line(place, count, v)
     } else {
         Err(ReadFault::Shape { place })
     }
 }
 
-#[tactic(auto, unfolding(crate::specs::Reading::set_of))]
-fn set_of(alloc: Global, place: u32, v: &Value) -> Result<Line, ReadFault>
-    ensures { Gives result (set_of place (view v.now)) }
+#[tactic(auto, unfolding(crate::specs::Reading::set_line))]
+fn set_line(alloc: Global, place: u32, v: &Value) -> Result<Line, ReadFault>
+    ensures { Gives is_memory result (set_line place (view v.now)) }
 {
     if !has_only(v, Kind::Set) {
         return Err(ReadFault::Shape { place });
@@ -68,14 +71,15 @@ fn set_of(alloc: Global, place: u32, v: &Value) -> Result<Line, ReadFault>
     }
     let context = context_at(place, v.get("context"))?;
     let fields = transaction_of(alloc, place, v.get("fields"))?;
+    let fields = Kept::of(alloc, fields)?;
     Ok(Line::Step(Step::ParentAct {
         action: ParentAction::Set { context, fields },
     }))
 }
 
-#[tactic(auto, unfolding(crate::specs::Reading::take_of))]
-fn take_of(place: u32, count: u8, v: &Value) -> Result<Line, ReadFault>
-    ensures { Gives result (take_of place count (view v.now)) }
+#[tactic(auto, unfolding(crate::specs::Reading::take_line))]
+fn take_line(place: u32, count: u8, v: &Value) -> Result<Line, ReadFault>
+    ensures { Gives is_memory result (take_line place count (view v.now)) }
 {
     if !has_only(v, Kind::Take) {
         return Err(ReadFault::Shape { place });
@@ -84,9 +88,9 @@ fn take_of(place: u32, count: u8, v: &Value) -> Result<Line, ReadFault>
     Ok(Line::Step(Step::Take { p }))
 }
 
-#[tactic(auto, unfolding(crate::specs::Reading::show_of))]
-fn show_of(place: u32, count: u8, v: &Value) -> Result<Line, ReadFault>
-    ensures { Gives result (show_of place count (view v.now)) }
+#[tactic(auto, unfolding(crate::specs::Reading::show_line))]
+fn show_line(place: u32, count: u8, v: &Value) -> Result<Line, ReadFault>
+    ensures { Gives is_memory result (show_line place count (view v.now)) }
 {
     if !has_only(v, Kind::Show) {
         return Err(ReadFault::Shape { place });
@@ -104,7 +108,7 @@ fn show_of(place: u32, count: u8, v: &Value) -> Result<Line, ReadFault>
 // The context that a member names.
 #[tactic(auto, unfolding(crate::specs::Reading::context_at))]
 fn context_at(place: u32, found: Option<&Value>) -> Result<ContextId, ReadFault>
-    ensures { Gives result (context_at place (seen found.entry)) }
+    ensures { Gives is_memory result (context_at place (data_found found.entry)) }
 {
     match found.and_then(Value::as_str).and_then(ContextId::parse) {
         None => Err(ReadFault::Shape { place }),
@@ -115,7 +119,7 @@ fn context_at(place: u32, found: Option<&Value>) -> Result<ContextId, ReadFault>
 // The parent, or the number of a process.
 #[tactic(auto, unfolding(crate::specs::Reading::actor_of))]
 fn actor_of(place: u32, count: u8, found: Option<&Value>) -> Result<Actor, ReadFault>
-    ensures { Gives result (actor_of place count (seen found.entry)) }
+    ensures { Gives is_memory result (actor_of place count (data_found found.entry)) }
 {
     if is_text(found, "parent") {
         return Ok(Actor::Parent);
@@ -126,7 +130,7 @@ fn actor_of(place: u32, count: u8, found: Option<&Value>) -> Result<Actor, ReadF
 
 #[tactic(auto, unfolding(crate::specs::Reading::field_of))]
 fn field_of(place: u32, found: Option<&Value>) -> Result<Field, ReadFault>
-    ensures { Gives result (field_of place (seen found.entry)) }
+    ensures { Gives is_memory result (field_of place (data_found found.entry)) }
 {
     match found.and_then(Value::as_str).and_then(field_named) {
         None => Err(ReadFault::Shape { place }),
@@ -140,52 +144,62 @@ fn transaction_of(
     place: u32,
     found: Option<&Value>,
 ) -> Result<Transaction, ReadFault>
-    ensures { Gives result (transaction_of place (seen found.entry)) }
+    ensures { Gives is_memory result (transaction_of place (data_found found.entry)) }
 {
-    let Some(v) = found else {
-        return Err(ReadFault::Shape { place });
-    };
-    if !has_only(v, Kind::Fields) {
+    let members = members_in(place, found)?;
+    if !has_member(members) {
         return Err(ReadFault::Shape { place });
     }
-    if !has_member(v) {
-        return Err(ReadFault::Shape { place });
-    }
-    changes_of(alloc, place, v)
+    changes_of(alloc, place, members)
 }
 
-// Going by the fields and not by the members gives the changes by number.
-fn changes_of(alloc: Global, place: u32, v: &Value) -> Result<Transaction, ReadFault>
-    ensures { Gives result (changes_of place fields (view v.now)) }
+// The members of an object.
+fn members_in(place: u32, found: Option<&Value>) -> Result<&Map<String, Value>, ReadFault>
+    ensures { let members = option_and_then as_object (data_found found.entry) in
+        GivesBy is_memory (λ m. members_view m.now.entries) result (or_shape place members) }
+{
+    match found.and_then(Value::as_object) {
+        None => Err(ReadFault::Shape { place }),
+        Some(members) => Ok(members),
+    }
+}
+
+// The new values. No two keys are the same, so that each member counts.
+fn changes_of(
+    alloc: Global,
+    place: u32,
+    members: &Map<String, Value>,
+) -> Result<Transaction, ReadFault>
+    ensures { Gives is_memory result (named_changes place (members_view members.now.entries)) }
 {
     let mut changes = Transaction::new();
-    for f in Field::ALL {
-        if let Some(value) = change_of(alloc, place, f, v.get(f.name()))? {
-            changes.set(f, value);
-        }
+    for (key, v) in members.iter() {
+        let (f, value) = named_change(alloc, place, key.as_str(), v)?;
+        changes.set(f, value);
     }
     Ok(changes)
 }
 
-// The new value of a field, if it's named.
-fn change_of(
+// A field that may be named, and its new value.
+fn named_change(
     alloc: Global,
     place: u32,
-    f: Field,
-    found: Option<&Value>,
-) -> Result<Option<field_table::Value>, ReadFault>
-    ensures exact { Gives result (change_of place f (seen found.entry)) }
-    ensures kind { IfOk result (λ c. are_of (kind f) c ≡ true) }
+    key: &str,
+    v: &Value,
+) -> Result<(Field, field_table::Value), ReadFault>
+    ensures exact { Gives is_memory result (named_change place key.now (view v.now)) }
+    ensures kind { IfOk result (λ c. is_of (kind c.0) c.1 ≡ true) }
 {
-    match found {
-        None => Ok(None),
-        Some(v) => Ok(Some(value_of(alloc, place, f, v)?)),
-    }
+    let Some(f) = field_named(key) else {
+        return Err(ReadFault::Shape { place });
+    };
+    let value = value_of(alloc, place, f, v)?;
+    Ok((f, value))
 }
 
 // The value of a field.
 fn value_of(alloc: Global, place: u32, f: Field, v: &Value) -> Result<field_table::Value, ReadFault>
-    ensures exact { Gives result (or_no_value place (value_of (kind f) (view v.now))) }
+    ensures exact { Gives is_memory result (or_no_value place (value_of (kind f) (view v.now))) }
     ensures kind { IfOk result (λ v. is_of (kind f) v ≡ true) }
 {
     match field_table::Value::read(alloc, f, v) {

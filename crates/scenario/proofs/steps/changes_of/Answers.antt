@@ -1,43 +1,34 @@
-use Rattle.std.proofs.Common.{◌≡◌, ℕ, get_or, set, take, Option, Some, sym, ap, ◌∙◌}
+use Rattle.std.proofs.Common.{◌≡◌, ap, sym, ◌∙◌, string_bytes, rules}
 use Rattle.std.proofs.lemmas.Result.{err_from_is_err_and}
-use Rattle.serde_json.specs.View.{view}
-use Rattle.field_table.specs.Field.{fields}
-use Rattle.field_table.specs.declared.field.Field.TheVariants.{Name}
-use Rattle.field_table.specs.declared.value.Value.{Value}
-use Rattle.field_table.proofs.FieldSets.{number-at}
-use Rattle.scenario.specs.Members.{seen}
-use Rattle.scenario.specs.Reading.{change_of, changes_of}
-use Rattle.scenario.proofs.Loop.{goes_on, ends, is_done}
-use Rattle.scenario.proofs.Changes.{kept, front_more, rest_more, front_all, fields_turn, fields_end}
+use Rattle.fission_ids.specs.Gives.{FailsWith}
+use Rattle.serde_json.specs.View.{view, members_view}
+use Rattle.serde_json.proofs.Views.{Entry}
+use Rattle.scenario.specs.Faults.{is_memory}
+use Rattle.scenario.specs.Reading.{named_change, named_changes}
+use Rattle.scenario.proofs.Changes.{put_in, all_put, put_step, put_fails, put_end}
 use Rattle.scenario.proofs.steps.changes_of.Goals as goal
-use Rattle.scenario.proofs.steps.changes_of.Goals.{in-Some, in_default}
 
-pub returns-in_err-value : goal.returns-in_err-value
-returns-in_err-value c =
-    let i = c.loop-f.f-index in
+pub loop-key-init : goal.loop-key-init
+loop-key-init c =
+    let start : c.into_iter-key-iterator.result ≡ c.args.members.now.entries = search rules in
+    ap (λ t. put_in c.args.place t c.into_iter-key-iterator.result) c.new-changes.ensures ∙ rw start (all_put c.args.place c.args.members.now.entries c.iter-key-items.ensures.ordered)
+
+pub returns-in_err-f : goal.returns-in_err-f
+returns-in_err-f c =
     let p = err_from_is_err_and c.from_residual.result c.from_residual.ensures.1 in
-    let turn = fields_turn c.args.place c.loop-f.f-index (view c.args.v.now) c.name.result.now (seen c.get.result) c.loop-f-test.true c.name.ensures c.get.ensures in
-    rw (p.1, p.2) (ends c.in_err-value.field-0.0 (take c.loop-f.f-index c.loop-f.changes) (change_of c.args.place (get_or fields i Name) (seen c.get.result)) _ _ (changes_of c.args.place fields (view c.args.v.now)) turn c.in_err-value.ensures.exact c.loop-f.invariant.so_far)
+    let e : Entry = (c.in-Some.key.now, c.in-Some.v.now) in
+    let key : c.as_str.result.now ≡ string_bytes c.in-Some.key.now = search rules in
+    let read : FailsWith (is_memory c.in_err-f.field-0.0) c.in_err-f.field-0.0 (named_change c.args.place (string_bytes c.in-Some.key.now) (view c.in-Some.v.now)) = rw (sym key) c.in_err-f.ensures.exact in
+    let total = named_changes c.args.place (members_view c.args.members.now.entries) in
+    rw (p.1, p.2) (put_fails c.in_err-f.field-0.0 c.args.place c.loop-key.changes e c.next.new.self c.loop-key.key-iterator total c.in-Some.ensures.steps read c.loop-key.invariant)
 
-pub loop-f-preserved : goal.loop-f-preserved
-loop-f-preserved c =
-    let i = c.loop-f.f-index in
-    let old = c.loop-f.changes in
-    let found = c.in_ok-value.field-0 in
-    let total = changes_of c.args.place fields (view c.args.v.now) in
-    let turn = fields_turn c.args.place i (view c.args.v.now) c.name.result.now (seen c.get.result) c.loop-f-test.true c.name.ensures c.get.ensures in
-    let more = goes_on (take i old) (change_of c.args.place (get_or fields i Name) (seen c.get.result)) found _ _ total turn c.in_ok-value.ensures.exact c.loop-f.invariant.so_far in
-    let is : c.match-branch-2.changes ≡ set old i found = elim c.match-branch-2.branch [
-      | in-Some w ↦ w.changes-is ∙ w.set.ensures ∙ ap (λ (k : ℕ). set old k (Some w.in-Some.value)) (number-at i _ c.loop-f-test.true) ∙ ap (λ (o : Option Value). set old i o) (sym w.in-Some.is)
-      | in_default w ↦ w.changes-is ∙ kept i old c.loop-f.invariant.rest ∙ ap (λ (o : Option Value). set old i o) (sym w.in_default.is)
-    ] in
-    record {
-      so_far = rw (front_more i old c.match-branch-2.changes found c.loop-f-test.true c.loop-f.invariant.rest is) more;
-      rest = rest_more i old c.match-branch-2.changes found c.loop-f.invariant.rest is;
-    }
+pub loop-key-preserved : goal.loop-key-preserved
+loop-key-preserved c =
+    let e : Entry = (c.in-Some.key.now, c.in-Some.v.now) in
+    let key : c.as_str.result.now ≡ string_bytes c.in-Some.key.now = search rules in
+    let read = ap (λ k. named_change c.args.place k (view c.in-Some.v.now)) (sym key) ∙ c.in_ok-f.ensures.exact in
+    let total = named_changes c.args.place (members_view c.args.members.now.entries) in
+    rw c.set.ensures.whole (put_step c.args.place c.loop-key.changes e c.next.new.self c.loop-key.key-iterator c.in_ok-f.f c.in_ok-f.value total c.in-Some.ensures.steps read c.loop-key.invariant)
 
 pub returns : goal.returns
-returns c =
-    let i = c.loop-f.f-index in
-    let old = c.loop-f.changes in
-    rw (front_all i old c.loop-f-test.false c.loop-f.invariant.rest) at (is_done (take i old) _ (changes_of c.args.place fields (view c.args.v.now)) (fields_end c.args.place i (view c.args.v.now) c.loop-f-test.false) c.loop-f.invariant.so_far)
+returns c = put_end c.args.place c.loop-key.changes c.loop-key.key-iterator (named_changes c.args.place (members_view c.args.members.now.entries)) c.in-None.ensures.steps.0 c.loop-key.invariant

@@ -1,0 +1,30 @@
+use Rattle.std.proofs.Common.{◌++◌, arith}
+use Rattle.report.specs.Report.{body_text}
+use Rattle.report.proofs.Written.{line_begun, line_passed, lines_passed, run_at_end-next, run_at_end-last, fits-next}
+use Rattle.report.proofs.playing.play_lines.Goals as goal
+
+pub returns-in_err-pass_on-clause-bytes : goal.returns-in_err-pass_on-clause-bytes
+returns-in_err-pass_on-clause-bytes g c =
+    line_begun c.from_residual-in_err-pass_on.result c.loop-line.number c.loop-line.line-index c.loop-line.world c.args.lines.now c.line-item.result c.as_str.result.now c.args.kept.now.items c.loop-line.kept.items c.pass_on.new.kept.items (body_text 1 c.args.world c.args.lines.now) _ _ _
+    c.from_residual-in_err-pass_on.ensures.0 c.loop-line-test.true c.line-item.is (rw c.as_str.ensures.value c.in_ok-after.ensures.text) c.loop-line.invariant.so_far c.in_err-pass_on.ensures.bytes
+
+pub loop-line-preserved : goal.loop-line-preserved
+loop-line-preserved g c =
+    let i = c.loop-line.line-index in
+    let r = c.loop-line.world in
+    let w = c.in_ok-after.after in
+    let ls = c.args.lines.now in
+    let next = c.in_ok-after.ensures.world in
+    record {
+      so_far = line_passed c.loop-line.number i r w ls c.line-item.result c.as_str.result.now c.loop-line.kept.items c.pass_on.new.kept.items _ _ _ _ c.loop-line-test.true c.line-item.is (rw c.as_str.ensures.value c.in_ok-after.ensures.text) next c.loop-line.invariant.so_far c.in_ok-pass_on.ensures.bytes;
+      run = run_at_end-next i r w _ ls c.line-item.result c.loop-line-test.true c.line-item.is next c.loop-line.invariant.run;
+      fits = fits-next i r w ls c.line-item.result c.loop-line-test.true c.line-item.is next c.loop-line.invariant.fits;
+      number = omega arith;
+      quiet = omega (arith, c.loop-line.invariant.quiet, c.in_ok-pass_on.ensures.faults);
+    }
+
+pub returns-clause-world : goal.returns-clause-world
+returns-clause-world g c = run_at_end-last c.loop-line.line-index c.loop-line.world _ c.args.lines.now c.loop-line-test.false c.loop-line.invariant.run
+
+pub returns-clause-bytes : goal.returns-clause-bytes
+returns-clause-bytes g c = lines_passed c.loop-line.number c.loop-line.line-index c.loop-line.world c.args.lines.now c.loop-line.kept.items (c.args.kept.now.items ++ body_text 1 c.args.world c.args.lines.now) _ _ c.loop-line-test.false c.loop-line.invariant.so_far

@@ -1,0 +1,89 @@
+-- The report of a scenario: its lines, each a function of the journal so far.
+use Rattle.std.specs.Prelude.{ℕ, ◌+◌, List, [], ◌∷◌, ◌++◌, length, Option, codes}
+use Rattle.std.specs.Fmt.{decimal}
+use Rattle.fission_ids.specs.declared.context.ContextId.{ContextId}
+use Rattle.fission_ids.specs.Ids.{context_text}
+use Rattle.field_table.specs.declared.field.Field.{Field}
+use Rattle.field_table.specs.declared.value.Value.{Value}
+use Rattle.field_table.specs.Field.{name}
+use Rattle.wire_msgs.specs.declared.answer.Answer.{Answer}
+use Rattle.wire_msgs.specs.declared.config.Config.{Config}
+use Rattle.journal.specs.declared.entry.Step.{Step}
+use Rattle.report_words.specs.Pieces.{text_of_pieces, process_text}
+use Rattle.report_words.specs.Values.{value_text}
+use Rattle.report_words.specs.Words.{step_text, answer_text}
+use Rattle.scenario.specs.declared.line.Actor.{Actor}
+use Rattle.scenario.specs.declared.line.Actor.TheVariants as actors
+use Rattle.scenario.specs.declared.line.Show.TheVariants.{One}
+use Rattle.scenario.specs.declared.line.Line.{Line}
+use Rattle.scenario.specs.declared.line.Line.TheVariants as lines
+use Rattle.scenario.specs.declared.line.Scenario.{Scenario}
+use Rattle.model.specs.View.{view, parent_view}
+use Rattle.model.specs.Next.{Run, run_at_start, run_after, answer_of}
+
+-- ---- the lines
+
+-- the line that tells where JSON is no scenario
+unfoldable pub place_text : ℕ → List ℕ
+place_text place = text_of_pieces (codes "shape " ∷ decimal place ∷ codes "\n" ∷ [])
+
+-- the first line: how many processes and tabs there are
+unfoldable pub head_text : Config → List ℕ
+head_text c =
+    text_of_pieces (codes "fission processes " ∷ decimal (length c.types) ∷
+    codes " tabs " ∷ decimal (length c.tabs) ∷ codes " actors 0\n" ∷ [])
+
+-- the n-th line: a step, and what it came to
+unfoldable pub entry_text : ℕ → Step → Answer → List ℕ
+entry_text n step answer =
+    text_of_pieces (decimal n ∷ codes " " ∷ step_text step ∷ codes " " ∷ answer_text answer ∷ codes "\n" ∷ [])
+
+-- `parent`, or `p` and the number of a process
+unfoldable pub actor_text : Actor → List ℕ
+actor_text actors.Parent = codes "parent"
+actor_text (actors.Process p) = process_text p
+
+-- the n-th line: a field of a context, as one side shows it
+unfoldable pub show_text : ℕ → Actor → ContextId → Field → Option Value → List ℕ
+show_text n who x f value =
+    text_of_pieces (decimal n ∷ codes " " ∷ actor_text who ∷ codes " show " ∷ context_text x ∷
+    codes " " ∷ name f ∷ codes " " ∷ value_text f value ∷ codes "\n" ∷ [])
+
+-- the last line: the number of entries
+unfoldable pub end_text : ℕ → List ℕ
+end_text n = text_of_pieces (codes "end " ∷ decimal n ∷ codes "\n" ∷ [])
+
+-- ---- the whole
+
+-- what a side shows of a field of a context
+abbrev pub value_shown : Run → Actor → ContextId → Field → Option Value
+value_shown r actors.Parent x f = parent_view r.config x f r.journal
+value_shown r (actors.Process p) x f = view r.config p.0 x f r.journal
+
+-- the run after a line
+abbrev pub run_after_line : Run → Line → Run
+run_after_line r (lines.Step step) = run_after r step
+run_after_line r (lines.Show show) = r
+
+-- the n-th line
+abbrev pub line_text : ℕ → Run → Line → List ℕ
+line_text n r (lines.Step step) = entry_text n step (answer_of r.config r.journal step)
+line_text n r (lines.Show (One who x f)) = show_text n who x f (value_shown r who x f)
+
+-- the lines from the n-th on
+unfoldable pub body_text : ℕ → Run → List Line → List ℕ
+body_text n r [] = []
+body_text n r (l ∷ ls) = line_text n r l ++ body_text (n + 1) (run_after_line r l) ls
+
+-- the run after all the lines
+unfoldable pub run_at_end : Run → List Line → Run
+run_at_end r [] = r
+run_at_end r (l ∷ ls) = run_at_end (run_after_line r l) ls
+
+-- the lines from the first on, and the end
+abbrev pub played_text : Run → List Line → List ℕ
+played_text r ls = body_text 1 r ls ++ end_text (length (run_at_end r ls).journal)
+
+-- the report of a scenario
+abbrev pub text : Scenario → List ℕ
+text s = head_text s.config ++ played_text (run_at_start s.config) s.lines

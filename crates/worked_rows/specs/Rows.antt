@@ -1,0 +1,36 @@
+-- Rows of worked scenarios, and what the player tells of them.
+use Rattle.std.specs.Prelude.{ℕ, List, [], ◌∷◌, ◌++◌, Bool, not, if◌then◌else◌, Result, Ok, Err}
+use Rattle.std.specs.Prelude.{codes, string_bytes}
+use Rattle.std.specs.List.{flat_map}
+use Rattle.std.specs.Str.{bytes_eq}
+use Rattle.scenario.specs.declared.fault.ReadFault.{ReadFault}
+use Rattle.scenario.specs.declared.fault.ReadFault.TheVariants.{Unread, Shape, OutOfMemory}
+use Rattle.scenario.specs.declared.line.Scenario.{Scenario}
+use Rattle.scenario.specs.Reading.{reading}
+use Rattle.report.specs.Report.{text, place_text}
+use Rattle.worked_rows.specs.declared.rows.Row.{Row}
+
+-- a row as it stands in the input: its name, the scenario, a line `--`, the report, and a line `==`
+unfoldable pub row_text : Row → List ℕ
+row_text row =
+    string_bytes row.name ++ (codes "\n" ++ (string_bytes row.scenario ++
+    (codes "--\n" ++ (string_bytes row.report ++ codes "==\n"))))
+
+-- what is told of what bytes read as
+abbrev pub told : Result Scenario ReadFault → List ℕ
+told (Ok s) = text s
+told (Err Unread) = []
+told (Err (Shape place)) = place_text place
+told (Err OutOfMemory) = []
+
+-- whether the report is another than what is told of the scenario
+abbrev pub differs : Row → Bool
+differs row = not (bytes_eq (told (reading (string_bytes row.scenario))) (string_bytes row.report))
+
+-- the name of a row, if its report differs
+abbrev pub name_if_differs : Row → List (List ℕ)
+name_if_differs row = if differs row then (string_bytes row.name ∷ []) else []
+
+-- the names of the rows whose report differs
+abbrev pub names_of_differing : List Row → List (List ℕ)
+names_of_differing rows = flat_map name_if_differs rows

@@ -1,0 +1,73 @@
+//! What is told of the rows.
+
+ghost use Rattle.std.specs.Prelude.{◌≡◌, ◌++◌, IfOk, OnOk, map, string_bytes};
+ghost use Rattle.edge.specs.Memory.{written_of};
+ghost use Rattle.scenario.specs.Fits.{Fits};
+ghost use Rattle.scenario.specs.Reading.{reading};
+ghost use Rattle.report.specs.Report.{text, place_text};
+ghost use Rattle.worked_rows.specs.Rows.{told, differs, name_if_differs, names_of_differing};
+
+use crate::rows::Row;
+use anyhow::{Error, Result};
+use edge::{MemSink, write_all};
+use report::{place_line, write_report};
+use scenario::{ReadFault, Scenario, read};
+use std::alloc::Global;
+
+fn tell_report(alloc: Global, scenario: Scenario, sink: &mut MemSink) -> Result<()>
+    requires { Fits scenario }
+    ensures { OnOk result (written_of sink.new ≡ written_of sink.old ++ text scenario) }
+{
+    write_report(alloc, scenario, sink)?;
+    Ok(())
+}
+
+fn tell_place(alloc: Global, place: u32, sink: &mut MemSink) -> Result<()>
+    ensures { OnOk result (written_of sink.new ≡ written_of sink.old ++ place_text place) }
+{
+    let line = place_line(alloc, place)?;
+    write_all(sink, line.as_bytes())?;
+    Ok(())
+}
+
+// Tells what the player tells of a scenario.
+fn tell(alloc: Global, scenario: &str, sink: &mut MemSink) -> Result<()>
+    ensures { OnOk result (written_of sink.new ≡ written_of sink.old ++ told (reading scenario.now)) }
+{
+    match read(alloc, scenario.as_bytes()) {
+        Ok(scenario) => tell_report(alloc, scenario, sink),
+        Err(ReadFault::Shape { place }) => tell_place(alloc, place, sink),
+        Err(ReadFault::Unread) => Ok(()),
+        Err(fault) => Err(Error::from(fault)),
+    }
+}
+
+fn differs(alloc: Global, row: &Row) -> Result<bool>
+    ensures { IfOk result (λ other. other ≡ differs row.now) }
+{
+    let mut sink = MemSink::new(alloc, Vec::new(alloc));
+    tell(alloc, row.scenario.as_str(), &mut sink)?;
+    Ok(sink.bytes() != row.report.as_bytes())
+}
+
+fn push_if_differs(alloc: Global, row: &Row, names: &mut Vec<String>) -> Result<()>
+    ensures { OnOk result (map string_bytes names.new.items ≡
+        map string_bytes names.old.items ++ name_if_differs row.now) }
+{
+    if !differs(alloc, row)? {
+        return Ok(());
+    }
+    names.push(row.name.clone()?)?;
+    Ok(())
+}
+
+/// The names of the rows of which another report is told.
+pub fn names_of_differing(alloc: Global, rows: &[Row]) -> Result<Vec<String>>
+    ensures { IfOk result (λ names. map string_bytes names.items ≡ names_of_differing rows.now) }
+{
+    let mut names = Vec::new(alloc);
+    for row in rows {
+        push_if_differs(alloc, row, &mut names)?;
+    }
+    Ok(names)
+}

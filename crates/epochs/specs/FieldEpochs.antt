@@ -15,12 +15,12 @@ abbrev pub epoch_of : Epochs → Field → Epoch
 epoch_of t f = slice_index_or t (number f) (record { 0 = 0 })
 
 -- no field was written
-abbrev pub none_marked : Epochs
-none_marked = map (λ _. record { 0 = 0 }) fields
+abbrev pub no_epochs : Epochs
+no_epochs = map (λ _. record { 0 = 0 }) fields
 
 -- the fields of the set have the epoch
-abbrev pub marked : FieldSet → Epoch → Epochs → Epochs
-marked s e t = map (λ f. if has s f then e else epoch_of t f) fields
+abbrev pub epochs_after : FieldSet → Epoch → Epochs → Epochs
+epochs_after s e t = map (λ f. if has s f then e else epoch_of t f) fields
 
 -- the fields of the set whose epoch is greater
 abbrev pub obsolete_in : FieldSet → Epoch → Epochs → FieldSet

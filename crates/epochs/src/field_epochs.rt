@@ -2,7 +2,7 @@ ghost use Rattle.std.specs.Prelude.{◌≡◌, ◌&&◌, length, nat_lt, if◌th
 ghost use Rattle.field_table.specs.declared.field.Field.{Field};
 ghost use Rattle.field_table.specs.Field.{fields};
 ghost use Rattle.field_table.specs.FieldSet.{has};
-ghost use Rattle.epochs.specs.FieldEpochs.{epoch_of, none_marked, marked, obsolete_in};
+ghost use Rattle.epochs.specs.FieldEpochs.{epoch_of, no_epochs, epochs_after, obsolete_in};
 
 use field_table::{Field, FieldSet};
 use fission_ids::{Duplicate, Epoch, OutOfMemory};
@@ -26,7 +26,7 @@ impl Model for FieldEpochs {
 impl FieldEpochs {
     /// No field was written.
     pub fn new() -> FieldEpochs
-        ensures { result ≡ none_marked }
+        ensures { result ≡ no_epochs }
     {
         FieldEpochs {
             epochs: [Epoch(0); 16],
@@ -35,7 +35,7 @@ impl FieldEpochs {
 
     /// Gives each field of the set the epoch. The other fields keep theirs.
     pub fn mark(&mut self, s: FieldSet, e: Epoch)
-        ensures whole { self.new ≡ marked s e self.old }
+        ensures whole { self.new ≡ epochs_after s e self.old }
         ensures epochs { (f : Field) → epoch_of self.new f ≡ (if has s f then e else epoch_of self.old f) }
     {
         mark_in(&mut self.epochs, s, e);
@@ -73,7 +73,7 @@ impl Duplicate for FieldEpochs {
 
 fn mark_in(epochs: &mut [Epoch], s: FieldSet, e: Epoch)
     requires { length epochs.old ≡ length fields }
-    ensures { epochs.new ≡ marked s e epochs.old }
+    ensures { epochs.new ≡ epochs_after s e epochs.old }
 {
     for f in Field::ALL {
         if s.has(f) {

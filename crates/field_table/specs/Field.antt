@@ -75,5 +75,5 @@ abbrev pub initial : Field → Value
 initial f = initial_of (kind f)
 
 -- the field of a name
-abbrev pub named : List ℕ → Option Field
-named text = find (λ f. bytes_eq (name f) text) fields
+abbrev pub field_of_name : List ℕ → Option Field
+field_of_name text = find (λ f. bytes_eq (name f) text) fields

@@ -1,5 +1,5 @@
 ghost use Rattle.std.specs.Prelude.{◌≡◌};
-ghost use Rattle.field_table.specs.Field.{number, name, kind, named, initial};
+ghost use Rattle.field_table.specs.Field.{number, name, kind, field_of_name, initial};
 
 use crate::kind::Kind;
 use crate::value::Value;
@@ -128,7 +128,7 @@ impl Field {
 
     /// The field of a name. Capitals count.
     pub fn named(text: &str) -> Option<Field>
-        ensures { result ≡ named text.now }
+        ensures { result ≡ field_of_name text.now }
     {
         Field::ALL.iter().copied().find(|f| f.name() == text)
     }

@@ -15,7 +15,7 @@ use Rattle.std.proofs.lemmas.List.Sums.{position_or_len_is}
 use Rattle.std.proofs.Math.Seq.{take-append_seam, drop-append-add, get_or-append_seam}
 use Rattle.fission_ids.specs.declared.context.ContextId.{ContextId}
 use Rattle.fission_ids.specs.declared.group.GroupId.{GroupId}
-use Rattle.fission_ids.specs.Ids.{AreInRange, IsGroupId, IsContextId, context_of, context_text, are_in_range, dotted, is_dot, creator_in, serial_in, numbers_of, group_of, group_text}
+use Rattle.fission_ids.specs.Ids.{AreInRange, IsGroupId, IsContextId, context_of, context_text, are_in_range, numbers_text, is_dot, creator_in, serial_in, numbers_of, group_of, group_text}
 use Rattle.fission_ids.proofs.Printed.{digits, no_dot-decimal}
 
 -- an optional value by a test
@@ -49,40 +49,40 @@ first_dot xs ys none = position_or_len_is is_dot (xs ++ 46 ∷ ys) (length xs) 0
     (λ k low. rw (get_or_append_left xs (46 ∷ ys) 0 k low) (let other = none k low in grind (arith, nat_tests)))
     (λ _. rw (get_or-append_seam xs 46 ys 0) refl)
 
-creator_in-dotted : (creator serial : ℕ) → AreInRange creator serial → digits_value 10 (before_first is_dot (dotted creator serial)) ≡ creator
+creator_in-dotted : (creator serial : ℕ) → AreInRange creator serial → digits_value 10 (before_first is_dot (numbers_text creator serial)) ≡ creator
 creator_in-dotted creator serial fits =
     rw (first_dot (decimal creator) (decimal serial) (no_dot-decimal creator (omega arith)), take-append_seam (decimal creator) (46 ∷ decimal serial))
     (digits_value-decimal digits creator (omega arith))
 
-serial_in-dotted : (creator serial : ℕ) → AreInRange creator serial → digits_value 10 (after_first is_dot (dotted creator serial)) ≡ serial
+serial_in-dotted : (creator serial : ℕ) → AreInRange creator serial → digits_value 10 (after_first is_dot (numbers_text creator serial)) ≡ serial
 serial_in-dotted creator serial fits =
     rw (first_dot (decimal creator) (decimal serial) (no_dot-decimal creator (omega arith)), drop-append-add (decimal creator) (46 ∷ decimal serial) 1)
     (digits_value-decimal digits serial (omega arith))
 
 -- the text of numbers in range names them
-pub numbers_of-dotted : (letter : ℕ) (bs : List ℕ) (creator serial : ℕ) → AreInRange creator serial → bs ≡ letter ∷ dotted creator serial → numbers_of (letter ∷ []) bs ≡ Some (creator, serial)
+pub numbers_of-dotted : (letter : ℕ) (bs : List ℕ) (creator serial : ℕ) → AreInRange creator serial → bs ≡ letter ∷ numbers_text creator serial → numbers_of (letter ∷ []) bs ≡ Some (creator, serial)
 unfolding numbers_of
 numbers_of-dotted letter bs creator serial fits e =
     rw (e, creator_in-dotted creator serial fits, serial_in-dotted creator serial fits)
-    (some_if _ (creator, serial) ((are_named-Decides creator serial (letter ∷ dotted creator serial) (letter ∷ dotted creator serial)).1 (fits, refl)))
+    (some_if _ (creator, serial) ((are_named-Decides creator serial (letter ∷ numbers_text creator serial) (letter ∷ numbers_text creator serial)).1 (fits, refl)))
 
 -- a text of no numbers in range names none
-pub numbers_of-none : (letter : ℕ) (bs : List ℕ) → ((creator serial : ℕ) → AreInRange creator serial → bs ≡ letter ∷ dotted creator serial → ⊥) → numbers_of (letter ∷ []) bs ≡ None
+pub numbers_of-none : (letter : ℕ) (bs : List ℕ) → ((creator serial : ℕ) → AreInRange creator serial → bs ≡ letter ∷ numbers_text creator serial → ⊥) → numbers_of (letter ∷ []) bs ≡ None
 unfolding numbers_of
 numbers_of-none letter bs never = none_if _ _ (λ e. let parts = (are_named-Decides (creator_in bs) (serial_in bs) bs _).0 e in never (creator_in bs) (serial_in bs) parts.0 parts.1)
 
 -- what is named is in range, and the text is that of it
-pub numbers_of-some : (letter : ℕ) (bs : List ℕ) (numbers : ℕ × ℕ) → numbers_of (letter ∷ []) bs ≡ Some numbers → AreInRange numbers.0 numbers.1 × (bs ≡ letter ∷ dotted numbers.0 numbers.1)
+pub numbers_of-some : (letter : ℕ) (bs : List ℕ) (numbers : ℕ × ℕ) → numbers_of (letter ∷ []) bs ≡ Some numbers → AreInRange numbers.0 numbers.1 × (bs ≡ letter ∷ numbers_text numbers.0 numbers.1)
 unfolding numbers_of
 numbers_of-some letter bs numbers e =
     let parts = from_if _ _ numbers e in
-    subst (λ (n : ℕ × ℕ). AreInRange n.0 n.1 × (bs ≡ letter ∷ dotted n.0 n.1)) parts.1 ((are_named-Decides (creator_in bs) (serial_in bs) bs _).0 parts.0)
+    subst (λ (n : ℕ × ℕ). AreInRange n.0 n.1 × (bs ≡ letter ∷ numbers_text n.0 n.1)) parts.1 ((are_named-Decides (creator_in bs) (serial_in bs) bs _).0 parts.0)
 
 -- the same for what is made of the numbers
-pub named_none : {X : Type 0} (make : ℕ × ℕ → X) (letter : ℕ) (bs : List ℕ) (r : Option X) → r ≡ None → ((creator serial : ℕ) → AreInRange creator serial → bs ≡ letter ∷ dotted creator serial → ⊥) → r ≡ option_map make (numbers_of (letter ∷ []) bs)
+pub named_none : {X : Type 0} (make : ℕ × ℕ → X) (letter : ℕ) (bs : List ℕ) (r : Option X) → r ≡ None → ((creator serial : ℕ) → AreInRange creator serial → bs ≡ letter ∷ numbers_text creator serial → ⊥) → r ≡ option_map make (numbers_of (letter ∷ []) bs)
 named_none make letter bs r e never = e ∙ ap (option_map make) (sym (numbers_of-none letter bs never))
 
-pub named_some : {X : Type 0} (make : ℕ × ℕ → X) (letter : ℕ) (bs : List ℕ) (creator serial : ℕ) → AreInRange creator serial → bs ≡ letter ∷ dotted creator serial → Some (make (creator, serial)) ≡ option_map make (numbers_of (letter ∷ []) bs)
+pub named_some : {X : Type 0} (make : ℕ × ℕ → X) (letter : ℕ) (bs : List ℕ) (creator serial : ℕ) → AreInRange creator serial → bs ≡ letter ∷ numbers_text creator serial → Some (make (creator, serial)) ≡ option_map make (numbers_of (letter ∷ []) bs)
 named_some make letter bs creator serial fits e = ap (option_map make) (sym (numbers_of-dotted letter bs creator serial fits e))
 
 -- the test of a group's number and text

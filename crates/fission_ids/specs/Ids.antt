@@ -31,20 +31,20 @@ abbrev pub IsPlain : List ℕ → Type 0
 IsPlain digits = (slice_index digits 0 ≢ 43) × (slice_index digits 0 ≡ 48 → length digits ≡ 1)
 
 -- two numbers with a dot between them
-abbrev pub dotted : ℕ → ℕ → List ℕ
-dotted creator serial = decimal creator ++ (codes "." ++ decimal serial)
+abbrev pub numbers_text : ℕ → ℕ → List ℕ
+numbers_text creator serial = decimal creator ++ (codes "." ++ decimal serial)
 
 abbrev pub group_text : GroupId → List ℕ
 group_text g = codes "g" ++ decimal g.0
 
 abbrev pub context_text : ContextId → List ℕ
-context_text x = codes "c" ++ dotted x.creator x.serial
+context_text x = codes "c" ++ numbers_text x.creator x.serial
 
 abbrev pub window_text : WindowId → List ℕ
-window_text w = codes "w" ++ dotted w.creator w.serial
+window_text w = codes "w" ++ numbers_text w.creator w.serial
 
 abbrev pub query_text : QueryId → List ℕ
-query_text q = codes "q" ++ dotted q.creator q.serial
+query_text q = codes "q" ++ numbers_text q.creator q.serial
 
 -- two numbers as one
 abbrev pub id_number : ℕ → ℕ → ℕ
@@ -80,7 +80,7 @@ numbers_of letter text =
     let creator = creator_in text in
     let serial = serial_in text in
     if are_in_range creator serial
-    && bytes_eq text (letter ++ dotted creator serial)
+    && bytes_eq text (letter ++ numbers_text creator serial)
     then Some (creator, serial) else None
 
 -- the context that a text names

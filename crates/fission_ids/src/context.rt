@@ -9,7 +9,7 @@ use std::alloc::Global;
 
 /// A browsing context. The creator is 0 for the parent and p + 1 for process p, so 0 to 16.
 /// The serial counts from 1.
-#[derive(Clone, Copy, Debug, PartialEq, Eq, PartialOrd, Ord)]
+#[derive(Clone, Copy, Debug, PartialEq, Eq, PartialOrd, Ord, Hash)]
 pub struct ContextId {
     pub creator: u8,
     pub serial: u32,

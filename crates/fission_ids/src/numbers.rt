@@ -1,6 +1,6 @@
 ghost use Rattle.std.specs.Prelude.{◌≡◌, ◌≢◌, ℕ, ◌^◌, ◌<◌, ◌≤◌, ◌∷◌, ◌++◌, ◌↔◌, List, IfOk, IfSome};
 ghost use Rattle.std.specs.Prelude.{IsSomeAnd, IsTrue, MatchOption, Some, codes, decimal};
-ghost use Rattle.fission_ids.specs.Ids.{AreInRange, IsPlain, dotted, id_number};
+ghost use Rattle.fission_ids.specs.Ids.{AreInRange, IsPlain, numbers_text, id_number};
 
 use crate::memory::OutOfMemory;
 use crate::text::Text;
@@ -64,7 +64,7 @@ pub(crate) fn after_letter(letter: char, text: &str) -> Option<&str>
 // What stands before the first dot, and what stands behind it.
 fn split_at_dot(text: &str) -> Option<(&str, &str)>
     ensures found { IfSome result (λ parts. text.now ≡ parts.0.now ++ (codes "." ++ parts.1.now)) }
-    ensures every { (creator serial : ℕ) → creator < 2 ^ 32 → text.now ≡ dotted creator serial →
+    ensures every { (creator serial : ℕ) → creator < 2 ^ 32 → text.now ≡ numbers_text creator serial →
         IsSomeAnd result (λ parts. (parts.0.now ≡ decimal creator) × (parts.1.now ≡ decimal serial)) }
 {
     text.split_once('.')
@@ -73,9 +73,9 @@ fn split_at_dot(text: &str) -> Option<(&str, &str)>
 // The creator and the serial in the text of an id that begins with this letter.
 pub(crate) fn read_numbers(letter: char, text: &str) -> Option<(u8, u32)>
     requires { letter < 128 }
-    ensures found { IfSome result (λ n. AreInRange n.0 n.1 × (text.now ≡ letter ∷ dotted n.0 n.1)) }
+    ensures found { IfSome result (λ n. AreInRange n.0 n.1 × (text.now ≡ letter ∷ numbers_text n.0 n.1)) }
     ensures every { (creator serial : ℕ) → AreInRange creator serial →
-        text.now ≡ letter ∷ dotted creator serial → result ≡ Some (creator, serial) }
+        text.now ≡ letter ∷ numbers_text creator serial → result ≡ Some (creator, serial) }
 {
     let (creator, serial) = split_at_dot(after_letter(letter, text)?)?;
     Some((read_creator(creator)?, read_serial(serial)?))
@@ -89,7 +89,7 @@ pub(crate) fn print_numbers(
     serial: u32,
 ) -> Result<Text, OutOfMemory>
     requires { letter < 128 }
-    ensures { IfOk result (λ t. t ≡ letter ∷ dotted creator serial) }
+    ensures { IfOk result (λ t. t ≡ letter ∷ numbers_text creator serial) }
 {
     Text::from_string(format!(in alloc; "{letter}{creator}.{serial}")?)
 }

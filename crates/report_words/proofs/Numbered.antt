@@ -8,7 +8,7 @@ use Rattle.std.specs.Option.{MatchOption}
 use Rattle.fission_ids.specs.declared.context.ContextId.{ContextId}
 use Rattle.fission_ids.specs.declared.window.WindowId.{WindowId}
 use Rattle.fission_ids.specs.Ids.{AreInRange, are_in_range, id_number, IsContextId, context_number, IsWindowId, window_number}
-use Rattle.report_words.specs.Values.{creator_of, serial_of, made_in_range, context_numbered, window_numbered}
+use Rattle.report_words.specs.Values.{creator_of, serial_of, made_in_range, context_of_number, window_of_number}
 
 some_if : {X : Type 0} (b : Bool) (x : X) → b ≡ true → Some x ≡ cond b (Some x) None
 some_if true x e = refl
@@ -50,13 +50,13 @@ made-some make n creator serial fits e =
     ap₂ (λ (a b : ℕ). Some (make a b)) c s ∙ some_if _ _ here
 
 -- the window in range with this number, if there is one
-pub window_numbered-is : (n : ℕ) (r : Option WindowId) → MatchOption r ((i : WindowId) → IsWindowId i → window_number i ≢ n) (λ i. IsWindowId i × (window_number i ≡ n)) → r ≡ window_numbered n
-unfolding window_numbered
+pub window_numbered-is : (n : ℕ) (r : Option WindowId) → MatchOption r ((i : WindowId) → IsWindowId i → window_number i ≢ n) (λ i. IsWindowId i × (window_number i ≡ n)) → r ≡ window_of_number n
+unfolding window_of_number
 window_numbered-is n None never = made-none (λ creator serial. record { creator = creator; serial = serial }) n (λ creator serial. never (record { creator = creator; serial = serial }))
 window_numbered-is n (Some i) (fits, e) = made-some (λ creator serial. record { creator = creator; serial = serial }) n i.creator i.serial fits e
 
 -- the context in range with this number, if there is one
-pub context_numbered-is : (n : ℕ) (r : Option ContextId) → MatchOption r ((i : ContextId) → IsContextId i → context_number i ≢ n) (λ i. IsContextId i × (context_number i ≡ n)) → r ≡ context_numbered n
-unfolding context_numbered
+pub context_numbered-is : (n : ℕ) (r : Option ContextId) → MatchOption r ((i : ContextId) → IsContextId i → context_number i ≢ n) (λ i. IsContextId i × (context_number i ≡ n)) → r ≡ context_of_number n
+unfolding context_of_number
 context_numbered-is n None never = made-none (λ creator serial. record { creator = creator; serial = serial }) n (λ creator serial. never (record { creator = creator; serial = serial }))
 context_numbered-is n (Some i) (fits, e) = made-some (λ creator serial. record { creator = creator; serial = serial }) n i.creator i.serial fits e

@@ -29,12 +29,12 @@ made_in_range make n =
     if are_in_range (creator_of n) (serial_of n) then Some (make (creator_of n) (serial_of n)) else None
 
 -- the window with this number
-unfoldable pub window_numbered : ℕ → Option WindowId
-window_numbered n = made_in_range (λ creator serial. record { creator = creator; serial = serial }) n
+unfoldable pub window_of_number : ℕ → Option WindowId
+window_of_number n = made_in_range (λ creator serial. record { creator = creator; serial = serial }) n
 
 -- the context with this number
-unfoldable pub context_numbered : ℕ → Option ContextId
-context_numbered n = made_in_range (λ creator serial. record { creator = creator; serial = serial }) n
+unfoldable pub context_of_number : ℕ → Option ContextId
+context_of_number n = made_in_range (λ creator serial. record { creator = creator; serial = serial }) n
 
 -- ---- values
 
@@ -53,8 +53,8 @@ unfoldable pub number_text : Kind → ℕ → List ℕ
 number_text (kinds.Flag initial) n = decimal n
 number_text (kinds.Number max initial) n = decimal n
 number_text kinds.Words n = decimal n
-number_text kinds.Window n = window_or_digits (window_numbered n) n
-number_text kinds.Context n = context_or_digits (context_numbered n) n
+number_text kinds.Window n = window_or_digits (window_of_number n) n
+number_text kinds.Context n = context_or_digits (context_of_number n) n
 
 -- what a field shows, or `-` where there is no value; a text as JSON writes it
 unfoldable pub value_text : Field → Option Value → List ℕ

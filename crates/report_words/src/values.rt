@@ -4,8 +4,8 @@ ghost use Rattle.std.specs.Prelude.{◌≡◌, IfOk, decimal, string_bytes};
 ghost use Rattle.std.specs.Option.{option_copied};
 ghost use Rattle.serde_json.specs.Data.{string};
 ghost use Rattle.serde_json.specs.Written.{compact_text};
-ghost use Rattle.report_words.specs.Values.{window_numbered, window_or_digits};
-ghost use Rattle.report_words.specs.Values.{context_numbered, context_or_digits};
+ghost use Rattle.report_words.specs.Values.{window_of_number, window_or_digits};
+ghost use Rattle.report_words.specs.Values.{context_of_number, context_or_digits};
 ghost use Rattle.report_words.specs.Values.{number_text, value_text};
 
 use crate::items::alone;
@@ -13,14 +13,14 @@ use field_table::{Field, Kind, Value};
 use fission_ids::{ContextId, OutOfMemory, WindowId};
 use std::alloc::Global;
 
-fn window_numbered(n: u64) -> Option<WindowId>
-    ensures { result ≡ window_numbered n }
+fn window_of_number(n: u64) -> Option<WindowId>
+    ensures { result ≡ window_of_number n }
 {
     WindowId::of_number(n)
 }
 
-fn context_numbered(n: u64) -> Option<ContextId>
-    ensures { result ≡ context_numbered n }
+fn context_of_number(n: u64) -> Option<ContextId>
+    ensures { result ≡ context_of_number n }
 {
     ContextId::of_number(n)
 }
@@ -33,9 +33,9 @@ fn digits(alloc: Global, n: u64) -> Result<String, OutOfMemory>
 
 // The number of no window is 0, or isn't read.
 fn window_or_digits(alloc: Global, n: u64) -> Result<String, OutOfMemory>
-    ensures { IfOk result (λ s. string_bytes s ≡ window_or_digits (window_numbered n) n) }
+    ensures { IfOk result (λ s. string_bytes s ≡ window_or_digits (window_of_number n) n) }
 {
-    let Some(window) = window_numbered(n) else {
+    let Some(window) = window_of_number(n) else {
         return digits(alloc, n);
     };
     alone(alloc, window.print(alloc)?.as_str())
@@ -43,9 +43,9 @@ fn window_or_digits(alloc: Global, n: u64) -> Result<String, OutOfMemory>
 
 // The number of no context is 0, or isn't read.
 fn context_or_digits(alloc: Global, n: u64) -> Result<String, OutOfMemory>
-    ensures { IfOk result (λ s. string_bytes s ≡ context_or_digits (context_numbered n) n) }
+    ensures { IfOk result (λ s. string_bytes s ≡ context_or_digits (context_of_number n) n) }
 {
-    let Some(context) = context_numbered(n) else {
+    let Some(context) = context_of_number(n) else {
         return digits(alloc, n);
     };
     alone(alloc, context.print(alloc)?.as_str())

@@ -19,7 +19,7 @@ use Rattle.field_table.specs.declared.field.Field.{Field}
 use Rattle.field_table.specs.declared.field.Field.TheVariants.{Name, Closed, ExplicitActive, CurrentInnerWindowId, OpenerId, FullZoom, TextZoom, Muted, MessageManagerGroup, UserAgentOverride, AllowContentRetargeting, SandboxFlags, IsInBFCache, Loading, DefaultLoadFlags, DisplayMode}
 use Rattle.field_table.specs.declared.value.Value.{Value}
 use Rattle.field_table.specs.declared.value.ValueFault.{ValueFault}
-use Rattle.field_table.specs.Field.{fields, number, name, kind, named, row}
+use Rattle.field_table.specs.Field.{fields, number, name, kind, field_of_name, row}
 use Rattle.field_table.specs.Reading.{value_of}
 use Rattle.field_table.proofs.Tables.{stands, Numbered, fields_numbered, at_number}
 use Rattle.transaction.specs.Transaction.{Changes, nothing, new_value}
@@ -52,10 +52,10 @@ named_is (Some g) f e = kept_is (may_be_named g) g f e
 
 name_of_key : (k : List ℕ) (f : Field) → field_named k ≡ Some f → name f ≡ k
 unfolding field_named
-name_of_key k f e = (bytes_eq-Decides (name f) k).0 (passes (λ g. bytes_eq (name g) k) fields f (named_is (named k) f e))
+name_of_key k f e = (bytes_eq-Decides (name f) k).0 (passes (λ g. bytes_eq (name g) k) fields f (named_is (field_of_name k) f e))
 
 -- each name is that of one field
-names : (f : Field) → named (name f) ≡ Some f
+names : (f : Field) → field_of_name (name f) ≡ Some f
 unfolding row
 names Name = refl
 names Closed = refl
@@ -79,7 +79,7 @@ found f = Some f
 
 names_differ : (f g : Field) → (number g ≡ number f → ⊥) → name g ≡ name f → ⊥
 names_differ f g other same =
-    let e : found g ≡ found f = sym (names g) ∙ ap named same ∙ names f in
+    let e : found g ≡ found f = sym (names g) ∙ ap field_of_name same ∙ names f in
     let is : g ≡ f = cc in
     other (ap number is)
 

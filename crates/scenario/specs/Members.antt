@@ -11,7 +11,7 @@ use Rattle.serde_json.specs.declared.value.Value.{Value}
 use Rattle.field_table.specs.declared.field.Field.{Field}
 use Rattle.field_table.specs.declared.field.Field.TheVariants.{CurrentInnerWindowId, OpenerId}
 use Rattle.field_table.specs.declared.field.Field.TheVariants.{FullZoom, TextZoom}
-use Rattle.field_table.specs.Field.{named}
+use Rattle.field_table.specs.Field.{field_of_name}
 use Rattle.scenario.specs.declared.members.Kind.{Kind}
 use Rattle.scenario.specs.declared.members.Kind.TheVariants as kinds
 
@@ -37,7 +37,7 @@ may_be_named f = true
 
 -- the field of a name, if it may be named
 unfoldable pub field_named : List ℕ → Option Field
-field_named text = option_and_then (λ f. if may_be_named f then Some f else None) (named text)
+field_named text = option_and_then (λ f. if may_be_named f then Some f else None) (field_of_name text)
 
 -- whether the key is the name of such a field
 abbrev pub is_field_name : List ℕ → Bool

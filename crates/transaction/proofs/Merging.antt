@@ -12,7 +12,7 @@ use Rattle.field_table.proofs.Tables.{stands, at_number, Numbered, fields_number
 use Rattle.field_table.specs.Table.{Table, value_in}
 use Rattle.field_table.specs.declared.value.Value.{Value}
 use Rattle.field_table.specs.declared.value.Value.TheVariants.{Flag}
-use Rattle.transaction.specs.Transaction.{Changes, AreOfKind, IsChanges, are_of, new_value, merged, kept}
+use Rattle.transaction.specs.Transaction.{Changes, AreOfKind, IsChanges, are_of, new_value, table_after, changes_in}
 
 -- the table with the value put at a place, if there is one
 abbrev pub put_at : Option Value → ℕ → Table → Table
@@ -27,27 +27,27 @@ below : (c : Option Value) (i : ℕ) (v : Value) (t : Table) → v ∷ put_at c 
 below None i v t = refl
 below (Some w) i v t = refl
 
-first : (c : Option Value) (v : Value) (t : Table) → merged (c ∷ []) (v ∷ t) ≡ put_at c 0 (v ∷ t)
+first : (c : Option Value) (v : Value) (t : Table) → table_after (c ∷ []) (v ∷ t) ≡ put_at c 0 (v ∷ t)
 first None v t = refl
 first (Some w) v t = refl
 
-pub merged-take-suc : (i : ℕ) (cs : Changes) (t : Table) → merged (take (suc i) cs) t ≡ put_at (get_or cs i None) i (merged (take i cs) t)
+pub merged-take-suc : (i : ℕ) (cs : Changes) (t : Table) → table_after (take (suc i) cs) t ≡ put_at (get_or cs i None) i (table_after (take i cs) t)
 merged-take-suc zero [] t = refl
 merged-take-suc (suc i) [] t = refl
 merged-take-suc zero (c ∷ cs) [] = sym (nowhere c 0)
 merged-take-suc (suc i) (c ∷ cs) [] = sym (nowhere (get_or cs i None) (suc i))
 merged-take-suc zero (c ∷ cs) (v ∷ t) = first c v t
-merged-take-suc (suc i) (c ∷ cs) (v ∷ t) = ap (λ (x : Table). unwrap_or c v ∷ x) (merged-take-suc i cs t) ∙ below (get_or cs i None) i (unwrap_or c v) (merged (take i cs) t)
+merged-take-suc (suc i) (c ∷ cs) (v ∷ t) = ap (λ (x : Table). unwrap_or c v ∷ x) (merged-take-suc i cs t) ∙ below (get_or cs i None) i (unwrap_or c v) (table_after (take i cs) t)
 
 -- what a merged table has at a place
-merged_at : (cs : Changes) (t : Table) (i : ℕ) (d : Value) → i < length t → get_or (merged cs t) i d ≡ unwrap_or (get_or cs i None) (get_or t i d)
+merged_at : (cs : Changes) (t : Table) (i : ℕ) (d : Value) → i < length t → get_or (table_after cs t) i d ≡ unwrap_or (get_or cs i None) (get_or t i d)
 merged_at [] t i d within = refl
 merged_at (c ∷ cs) [] i d within = absurd (omega arith)
 merged_at (c ∷ cs) (v ∷ t) zero d within = refl
 merged_at (c ∷ cs) (v ∷ t) (suc i) d within = merged_at cs t i d (omega arith)
 
 -- what a merged table has for a field
-pub value_in-merged : (cs : Changes) (old new : Table) (f : Field) → new ≡ merged cs old → length old ≡ length fields → value_in new f ≡ unwrap_or (new_value cs f) (value_in old f)
+pub value_in-merged : (cs : Changes) (old new : Table) (f : Field) → new ≡ table_after cs old → length old ≡ length fields → value_in new f ≡ unwrap_or (new_value cs f) (value_in old f)
 value_in-merged cs old new f e len = ap (λ (t : Table). value_in t f) e ∙ merged_at cs old (number f) (Flag false) (subst (λ (n : ℕ). number f < n) (sym len) (stands f).below)
 
 same_at : (i : ℕ) (values before : Changes) → drop i values ≡ drop i before → get_or values i None ≡ get_or before i None
@@ -60,9 +60,9 @@ same_at i values before h =
 
 -- one value more is merged
 pub merged_more : (i n : ℕ) (before values : Changes) (old fields new : Table) → n ≡ i → drop i values ≡ drop i before
-    → fields ≡ merged (take i before) old → new ≡ put_at (get_or values n None) n fields → new ≡ merged (take (i + 1) before) old
+    → fields ≡ table_after (take i before) old → new ≡ put_at (get_or values n None) n fields → new ≡ table_after (take (i + 1) before) old
 merged_more i n before values old fields new at rest done put =
-    let e : new ≡ put_at (get_or before i None) i (merged (take i before) old) = put ∙ ap (λ (k : ℕ). put_at (get_or values k None) k fields) at ∙ ap (λ (c : Option Value). put_at c i fields) (same_at i values before rest) ∙ ap (put_at (get_or before i None) i) done in
+    let e : new ≡ put_at (get_or before i None) i (table_after (take i before) old) = put ∙ ap (λ (k : ℕ). put_at (get_or values k None) k fields) at ∙ ap (λ (c : Option Value). put_at c i fields) (same_at i values before rest) ∙ ap (put_at (get_or before i None) i) done in
     rw add-one (e ∙ sym (merged-take-suc i before old))
 
 -- a value that is put is of its field's kind
@@ -81,23 +81,23 @@ kept_of_kind true k o h = h
 kept_of_kind false k o h = refl
 
 -- what is kept is of its kind still
-AreOfKind-kept : (s : FieldSet) (old new : Changes) → new ≡ kept s old → AreOfKind old → AreOfKind new
+AreOfKind-kept : (s : FieldSet) (old new : Changes) → new ≡ changes_in s old → AreOfKind old → AreOfKind new
 AreOfKind-kept s old new e all f =
     let h : Field → Option Value = λ g. if has s g then new_value old g else None in
     let now : new_value new f ≡ h f = ap (λ (t : Changes). new_value t f) e ∙ at_number h None f in
     ap (are_of (kind f)) now ∙ kept_of_kind (has s f) (kind f) (new_value old f) (all f)
 
-pub IsChanges-kept : (s : FieldSet) (old new : Changes) → new ≡ kept s old → IsChanges old → IsChanges new
+pub IsChanges-kept : (s : FieldSet) (old new : Changes) → new ≡ changes_in s old → IsChanges old → IsChanges new
 IsChanges-kept s old new e is = record { len = ap length e ∙ length-map fields (λ (f : Field). if has s f then new_value old f else None); kinds = AreOfKind-kept s old new e is.kinds }
 
-one_merged : (cs : Changes) (v : Value) (vs : List Value) → merged cs (v ∷ vs) ≡ unwrap_or (get_or cs 0 None) v ∷ merged (drop 1 cs) vs
+one_merged : (cs : Changes) (v : Value) (vs : List Value) → table_after cs (v ∷ vs) ≡ unwrap_or (get_or cs 0 None) v ∷ table_after (drop 1 cs) vs
 one_merged [] v vs = refl
 one_merged (c ∷ cs) v vs = refl
 
-merged_from : (t : Changes) (g : Field → Value) (k : ℕ) (fs : List Field) → Numbered k fs → merged (drop k t) (map g fs) ≡ map (λ f. unwrap_or (new_value t f) (g f)) fs
+merged_from : (t : Changes) (g : Field → Value) (k : ℕ) (fs : List Field) → Numbered k fs → table_after (drop k t) (map g fs) ≡ map (λ f. unwrap_or (new_value t f) (g f)) fs
 merged_from t g k [] at = none (drop k t)
   where
-    none : (cs : Changes) → merged cs [] ≡ []
+    none : (cs : Changes) → table_after cs [] ≡ []
     none [] = refl
     none (c ∷ cs) = refl
 merged_from t g k (f ∷ fs) at =
@@ -105,9 +105,9 @@ merged_from t g k (f ∷ fs) at =
     let read : get_or (drop k t) 0 None ≡ new_value t f = get_or-drop k t 0 None ∙ ap (λ i. get_or t i None) (here ∙ sym at.0) in
     let next : drop 1 (drop k t) ≡ drop (suc k) t = rw add-one at (drop-drop 1 k t) in
     one_merged (drop k t) (g f) (map g fs)
-    ∙ ap₂ (λ c l. unwrap_or c (g f) ∷ merged l (map g fs)) read next
+    ∙ ap₂ (λ c l. unwrap_or c (g f) ∷ table_after l (map g fs)) read next
     ∙ ap (λ l. unwrap_or (new_value t f) (g f) ∷ l) (merged_from t g (suc k) fs at.1)
 
 -- changes merged into a table are the new values, and the table's where there are none
-pub merged_map : (t : Changes) (g : Field → Value) → merged t (map g fields) ≡ map (λ f. unwrap_or (new_value t f) (g f)) fields
+pub merged_map : (t : Changes) (g : Field → Value) → table_after t (map g fields) ≡ map (λ f. unwrap_or (new_value t f) (g f)) fields
 merged_map t g = merged_from t g 0 fields fields_numbered

@@ -37,18 +37,18 @@ pub record IsChanges (t : Changes) : Type 0 where
   pub kinds : AreOfKind t
 
 -- the table with the new values in it
-abbrev pub merged : Changes → Table → Table
-merged [] values = values
-merged (c ∷ cs) [] = []
-merged (c ∷ cs) (v ∷ values) = unwrap_or c v ∷ merged cs values
+abbrev pub table_after : Changes → Table → Table
+table_after [] values = values
+table_after (c ∷ cs) [] = []
+table_after (c ∷ cs) (v ∷ values) = unwrap_or c v ∷ table_after cs values
 
 -- the fields that are modified
 abbrev pub modified_in : Changes → FieldSet
 modified_in t = set_of (λ f. is_some (new_value t f))
 
 -- what is left where only the fields of the set are kept
-abbrev pub kept : FieldSet → Changes → Changes
-kept s t = map (λ f. if has s f then new_value t f else None) fields
+abbrev pub changes_in : FieldSet → Changes → Changes
+changes_in s t = map (λ f. if has s f then new_value t f else None) fields
 
 -- what is left without the fields of two sets
 abbrev pub allowed_by : FieldSet → FieldSet → Changes → Changes

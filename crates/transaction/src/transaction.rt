@@ -6,8 +6,8 @@ ghost use Rattle.field_table.specs.Field.{number, kind, fields as all_fields};
 ghost use Rattle.field_table.specs.FieldSet.{has};
 ghost use Rattle.field_table.specs.Table.{value_in};
 ghost use Rattle.field_table.specs.Value.{is_of};
-ghost use Rattle.transaction.specs.Transaction.{AreOfKind, nothing, new_value, merged, modified_in, kept};
-ghost use Rattle.transaction.specs.Transaction.{allowed_by};
+ghost use Rattle.transaction.specs.Transaction.{AreOfKind, nothing, new_value, table_after, modified_in};
+ghost use Rattle.transaction.specs.Transaction.{changes_in, allowed_by};
 
 use field_table::{Field, FieldSet, Fields, Value};
 use fission_ids::{Duplicate, OutOfMemory};
@@ -120,7 +120,7 @@ impl Transaction {
 
     /// Leaves what is modified and in the set. The other fields aren't modified any more.
     pub fn keep(&mut self, s: FieldSet)
-        ensures whole { self.new ≡ kept s self.old }
+        ensures whole { self.new ≡ changes_in s self.old }
         ensures values { (f : Field) →
             new_value self.new f ≡ (if has s f then new_value self.old f else None) }
     {
@@ -155,7 +155,7 @@ impl Transaction {
 
     /// Gives the modified fields their new values. The others stay.
     pub fn apply(self, fields: &mut Fields)
-        ensures whole { fields.new ≡ merged self fields.old }
+        ensures whole { fields.new ≡ table_after self fields.old }
         ensures values { (f : Field) →
             value_in fields.new f ≡ unwrap_or (new_value self f) (value_in fields.old f) }
     {
@@ -188,7 +188,7 @@ fn put_in(values: &mut [Option<Value>], fields: &mut Fields)
     requires long { length values.old ≡ length all_fields }
     requires kinds { AreOfKind values.old }
     requires table { length fields.old ≡ length all_fields }
-    ensures whole { fields.new ≡ merged values.old fields.old }
+    ensures whole { fields.new ≡ table_after values.old fields.old }
     ensures values { (f : Field) →
         value_in fields.new f ≡ unwrap_or (new_value values.old f) (value_in fields.old f) }
 {
@@ -201,7 +201,7 @@ fn put_in(values: &mut [Option<Value>], fields: &mut Fields)
 
 fn keep_in(values: &mut [Option<Value>], s: FieldSet)
     requires { length values.old ≡ length all_fields }
-    ensures { values.new ≡ kept s values.old }
+    ensures { values.new ≡ changes_in s values.old }
 {
     for f in Field::ALL {
         if !s.has(f) {

@@ -17,15 +17,15 @@ row_text row =
     (codes "--\n" ++ (string_bytes row.report ++ codes "==\n"))))
 
 -- what is told of what bytes read as
-abbrev pub told : Result Scenario ReadFault → List ℕ
-told (Ok s) = text s
-told (Err Unread) = []
-told (Err (Shape place)) = place_text place
-told (Err OutOfMemory) = []
+abbrev pub answer_text : Result Scenario ReadFault → List ℕ
+answer_text (Ok s) = text s
+answer_text (Err Unread) = []
+answer_text (Err (Shape place)) = place_text place
+answer_text (Err OutOfMemory) = []
 
 -- whether the report is another than what is told of the scenario
 abbrev pub differs : Row → Bool
-differs row = not (bytes_eq (told (reading (string_bytes row.scenario))) (string_bytes row.report))
+differs row = not (bytes_eq (answer_text (reading (string_bytes row.scenario))) (string_bytes row.report))
 
 -- the name of a row, if its report differs
 abbrev pub name_if_differs : Row → List (List ℕ)

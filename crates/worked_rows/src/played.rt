@@ -5,7 +5,7 @@ ghost use Rattle.edge.specs.Memory.{written_of};
 ghost use Rattle.scenario.specs.Fits.{Fits};
 ghost use Rattle.scenario.specs.Reading.{reading};
 ghost use Rattle.report.specs.Report.{text, place_text};
-ghost use Rattle.worked_rows.specs.Rows.{told, differs, name_if_differs, names_of_differing};
+ghost use Rattle.worked_rows.specs.Rows.{answer_text, differs, name_if_differs, names_of_differing};
 
 use crate::rows::Row;
 use anyhow::{Error, Result};
@@ -32,7 +32,7 @@ fn tell_place(alloc: Global, place: u32, sink: &mut MemSink) -> Result<()>
 
 // Tells what the player tells of a scenario.
 fn tell(alloc: Global, scenario: &str, sink: &mut MemSink) -> Result<()>
-    ensures { OnOk result (written_of sink.new ≡ written_of sink.old ++ told (reading scenario.now)) }
+    ensures { OnOk result (written_of sink.new ≡ written_of sink.old ++ answer_text (reading scenario.now)) }
 {
     match read(alloc, scenario.as_bytes()) {
         Ok(scenario) => tell_report(alloc, scenario, sink),

@@ -5,7 +5,7 @@ use Rattle.std.proofs.lemmas.List.{append-nil, map-append, take-append-le, drop-
 use Rattle.fission_ids.specs.Ids.{same_context}
 use Rattle.fission_ids.specs.declared.context.ContextId.{ContextId}
 use Rattle.field_table.specs.Table.{Table}
-use Rattle.transaction.specs.Transaction.{merged}
+use Rattle.transaction.specs.Transaction.{table_after}
 use Rattle.wire_msgs.specs.declared.bundle.DownBundle.{DownBundle}
 use Rattle.wire_msgs.specs.declared.config.Config.{Config}
 use Rattle.wire_msgs.specs.declared.config.StartTab.{StartTab}
@@ -25,7 +25,7 @@ use Rattle.world.specs.Stands.{table_at, parent_of, held_table, process_of}
 use Rattle.world.proofs.Lists.{map-same, cut_more}
 use Rattle.model.proofs.Contexts.{subscribed_live}
 use Rattle.world.proofs.Tabs.{IsPlaced, placed, same_itself, get_or-by_tab, set-by_tab}
-use Rattle.world.proofs.Merging.{table_with, table_after, table_more}
+use Rattle.world.proofs.Merging.{table_with, table_after_entry, table_more}
 use Rattle.world.proofs.Orders.{Follows, tables, tables_agree, follows, follows_cut, last_more, AreSubscribed, are_subscribed, subscribed_cut}
 
 no_take : (accepted : Bool) (n : ℕ) → cond (accepted && false) (suc n) n ≡ n
@@ -128,23 +128,23 @@ held_took c p x e j w ws own none answer waits =
     ap (tables x (e ∷ j)) moved ∙ tables_agree x e j w.entry led.0 ∙ led.1)
 
 -- a commit changes the table of its own context
-applied_own : (m : Commit) (o : Option Table) → option_map (merged m.change) o ≡ option_map (table_with m.context m) o
+applied_own : (m : Commit) (o : Option Table) → option_map (table_after m.change) o ≡ option_map (table_with m.context m) o
 applied_own m None = refl
-applied_own m (Some t) = ap (λ b. Some (cond b (merged m.change t) t)) (sym (same_itself m.context))
+applied_own m (Some t) = ap (λ b. Some (cond b (table_after m.change t) t)) (sym (same_itself m.context))
 
 -- a commit leaves the table of another context
 applied_other : (m : Commit) (x : ContextId) (o : Option Table) → same_context m.context x ≡ false → option_map (table_with x m) o ≡ o
 applied_other m x None other = refl
-applied_other m x (Some t) other = ap (λ b. Some (cond b (merged m.change t) t)) other
+applied_other m x (Some t) other = ap (λ b. Some (cond b (table_after m.change t) t)) other
 
 -- the tables of a process after it took a commit of a live context
 tables_took : (tabs : List StartTab) (m : Commit) (old new : ContextId → Option Table) → IsPlaced tabs m.context → ((x : ContextId) → new x ≡ option_map (table_with x m) (old x))
     → by_tab new tabs ≡ tables_after_commit (Some m) (by_tab old tabs)
 tables_took tabs m old new at took =
     let x = m.context in
-    let own : option_map (merged m.change) (table_of x (by_tab old tabs)) ≡ new x =
-    ap (λ (o : Option Table). option_map (merged m.change) o) (get_or-by_tab old tabs x None at) ∙ applied_own m (old x) ∙ sym (took x) in
-    sym (set-by_tab old new tabs x (option_map (merged m.change) (table_of x (by_tab old tabs))) at own (λ y other. took y ∙ applied_other m y (old y) other))
+    let own : option_map (table_after m.change) (table_of x (by_tab old tabs)) ≡ new x =
+    ap (λ (o : Option Table). option_map (table_after m.change) o) (get_or-by_tab old tabs x None at) ∙ applied_own m (old x) ∙ sym (took x) in
+    sym (set-by_tab old new tabs x (option_map (table_after m.change) (table_of x (by_tab old tabs))) at own (λ y other. took y ∙ applied_other m y (old y) other))
 
 -- a process after a take of its own
 pub process_took : (c : Config) (p : ℕ) (e : Entry) (j : Journal) → is_take p e.step ≡ true → commit_of_entry e ≡ None → e.answer ≡ take_answer (bundles_waiting c p j) → process_of c (e ∷ j) p ≡ process_after_take (process_of c j p)
@@ -176,16 +176,16 @@ process_took c p e j own none answer = by_waiting (bundles_waiting c p j) refl
 pub parent_still : (c : Config) (e : Entry) (j : Journal) → commit_of_entry e ≡ None → parent_of c (e ∷ j) ≡ parent_of c j
 parent_still c e j none =
     map-same (λ n. table_at (nth_context n) (e ∷ j)) (λ n. table_at (nth_context n) j)
-    (λ n. table_more (nth_context n) e j ∙ ap (λ (o : Option Commit). table_after (nth_context n) o (table_at (nth_context n) j)) none) (numbers 0 (length c.tabs))
+    (λ n. table_more (nth_context n) e j ∙ ap (λ (o : Option Commit). table_after_entry (nth_context n) o (table_at (nth_context n) j)) none) (numbers 0 (length c.tabs))
 
 -- the parent after an entry that committed something of a live context
 pub parent_more : (c : Config) (e : Entry) (j : Journal) (m : Commit) → commit_of_entry e ≡ Some m → is_live c.tabs m.context ≡ true → parent_of c (e ∷ j) ≡ parent_after_commit m (parent_of c j)
 parent_more c e j m commits live =
     let x = m.context in
     let at : IsPlaced c.tabs x = placed c.tabs x live in
-    let more : (y : ContextId) → table_at y (e ∷ j) ≡ table_with y m (table_at y j) = λ y. table_more y e j ∙ ap (λ (o : Option Commit). table_after y o (table_at y j)) commits in
-    let own : merged m.change (get_or (parent_of c j) (place_of x) []) ≡ table_at x (e ∷ j) =
-    ap (merged m.change) (get_or-by_tab (λ y. table_at y j) c.tabs x [] at)
-    ∙ ap (λ b. cond b (merged m.change (table_at x j)) (table_at x j)) (sym (same_itself x))
+    let more : (y : ContextId) → table_at y (e ∷ j) ≡ table_with y m (table_at y j) = λ y. table_more y e j ∙ ap (λ (o : Option Commit). table_after_entry y o (table_at y j)) commits in
+    let own : table_after m.change (get_or (parent_of c j) (place_of x) []) ≡ table_at x (e ∷ j) =
+    ap (table_after m.change) (get_or-by_tab (λ y. table_at y j) c.tabs x [] at)
+    ∙ ap (λ b. cond b (table_after m.change (table_at x j)) (table_at x j)) (sym (same_itself x))
     ∙ sym (more x) in
-    sym (set-by_tab (λ y. table_at y j) (λ y. table_at y (e ∷ j)) c.tabs x _ at own (λ y other. more y ∙ ap (λ b. cond b (merged m.change (table_at y j)) (table_at y j)) other))
+    sym (set-by_tab (λ y. table_at y j) (λ y. table_at y (e ∷ j)) c.tabs x _ at own (λ y other. more y ∙ ap (λ b. cond b (table_after m.change (table_at y j)) (table_at y j)) other))

@@ -5,7 +5,7 @@ use Rattle.std.proofs.lemmas.List.{append-nil}
 use Rattle.fission_ids.specs.Ids.{same_context}
 use Rattle.fission_ids.specs.declared.context.ContextId.{ContextId}
 use Rattle.field_table.specs.Table.{Table}
-use Rattle.transaction.specs.Transaction.{merged}
+use Rattle.transaction.specs.Transaction.{table_after}
 use Rattle.wire_msgs.specs.declared.config.Config.{Config}
 use Rattle.journal.specs.declared.entry.Entry.{Entry}
 use Rattle.model.specs.Journal.{Journal, Commit, up_to, commit_of_entry}
@@ -14,7 +14,7 @@ use Rattle.model.specs.Links.{Sent, bundles_sent_in, bundles_sent, last_entry}
 use Rattle.world.specs.Stands.{table_at}
 use Rattle.model.proofs.Contexts.{not_same}
 use Rattle.model.proofs.Moments.{up_to_older}
-use Rattle.world.proofs.Merging.{table_with, table_after, table_more}
+use Rattle.world.proofs.Merging.{table_with, table_after_entry, table_more}
 
 -- Of context x's tables by the number of an entry, up to n: from entry k on each bundle leads from the table of the entry
 -- before to that of its own, and behind the last bundle the table stays.
@@ -44,11 +44,11 @@ follows_if : (b : Bool) (x : ContextId) (m : Commit) (old new : ℕ → Table) (
     → (b ≡ false → same_context m.context x ≡ false) → Follows x old n 0 ss → Follows x new (suc n) 0 (ss ++ cond b (record { entry = suc n; commit = m } ∷ []) [])
 follows_if true x m old new n ss agree more other h = follows_sent x m old new n 0 ss agree more (omega arith) h
 follows_if false x m old new n ss agree more other h =
-    let still : new (suc n) ≡ old n = more ∙ ap (λ b. cond b (merged m.change (old n)) (old n)) (other refl) in
+    let still : new (suc n) ≡ old n = more ∙ ap (λ b. cond b (table_after m.change (old n)) (old n)) (other refl) in
     rw append-nil (follows_still x old new n 0 ss agree still (omega arith) h)
 
 follows_more : (c : Config) (p : ℕ) (x : ContextId) (o : Option Commit) (old new : ℕ → Table) (n : ℕ) (ss : List Sent) → is_subscribed c.tabs x p ≡ true → Agree n old new
-    → new (suc n) ≡ table_after x o (old n) → Follows x old n 0 ss → Follows x new (suc n) 0 (ss ++ bundles_sent_in c p (suc n) o)
+    → new (suc n) ≡ table_after_entry x o (old n) → Follows x old n 0 ss → Follows x new (suc n) 0 (ss ++ bundles_sent_in c p (suc n) o)
 follows_more c p x None old new n ss own agree more h = rw append-nil (follows_still x old new n 0 ss agree more (omega arith) h)
 follows_more c p x (Some m) old new n ss own agree more h =
     follows_if (is_subscribed c.tabs m.context p) x m old new n ss agree more
@@ -77,8 +77,8 @@ up_to-all j = let none : length j - length j ≡ 0 = omega arith in rw none refl
 pub tables_agree : (x : ContextId) (e : Entry) (j : Journal) → Agree (length j) (tables x j) (tables x (e ∷ j))
 tables_agree x e j = λ k within. ap (table_at x) (up_to_older k e j within)
 
-tables_more : (x : ContextId) (e : Entry) (j : Journal) → tables x (e ∷ j) (suc (length j)) ≡ table_after x (commit_of_entry e) (tables x j (length j))
-tables_more x e j = ap (table_at x) (up_to-all (e ∷ j)) ∙ table_more x e j ∙ ap (λ l. table_after x (commit_of_entry e) (table_at x l)) (sym (up_to-all j))
+tables_more : (x : ContextId) (e : Entry) (j : Journal) → tables x (e ∷ j) (suc (length j)) ≡ table_after_entry x (commit_of_entry e) (tables x j (length j))
+tables_more x e j = ap (table_at x) (up_to-all (e ∷ j)) ∙ table_more x e j ∙ ap (λ l. table_after_entry x (commit_of_entry e) (table_at x l)) (sym (up_to-all j))
 
 -- what was sent to a process leads the tables of a context to which it is subscribed
 pub follows : (c : Config) (p : ℕ) (x : ContextId) (j : Journal) → is_subscribed c.tabs x p ≡ true → Follows x (tables x j) (length j) 0 (bundles_sent c p j)

@@ -1,7 +1,7 @@
 -- What a step comes to, and what the parent and the processes have after it.
 use Rattle.std.specs.Prelude.{List, [], map, slice_index_or, slice_set, if◌then◌else◌}
 use Rattle.field_table.specs.Table.{Table}
-use Rattle.transaction.specs.Transaction.{merged}
+use Rattle.transaction.specs.Transaction.{table_after}
 use Rattle.wire_msgs.specs.declared.action.ParentAction.{ParentAction}
 use Rattle.wire_msgs.specs.declared.action.ParentAction.TheVariants as actions
 use Rattle.wire_msgs.specs.declared.answer.Answer.{Answer}
@@ -25,7 +25,8 @@ step_answer c ps (Take p) = bundles_answer (slice_index_or ps p.0 no_process).li
 -- the parent's tables after a commit of a tab's context
 abbrev pub parent_after_commit : Commit → List Table → List Table
 parent_after_commit m tables =
-    slice_set tables (place_of m.context) (merged m.change (slice_index_or tables (place_of m.context) []))
+    slice_set tables (place_of m.context)
+    (table_after m.change (slice_index_or tables (place_of m.context) []))
 
 -- the parent's tables after an action of its own
 abbrev pub parent_after_action : List StartTab → ParentAction → List Table → List Table

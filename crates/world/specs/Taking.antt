@@ -1,7 +1,7 @@
 -- What a process can take, what it has after it took, and what the take comes to.
 use Rattle.std.specs.Prelude.{◌≡◌, ◌<◌, List, [], ◌∷◌, All, Option, Some, None, IsSome, option_map, slice_set}
 use Rattle.field_table.specs.Table.{Table}
-use Rattle.transaction.specs.Transaction.{merged}
+use Rattle.transaction.specs.Transaction.{table_after}
 use Rattle.wire_msgs.specs.declared.answer.Answer.{Answer}
 use Rattle.wire_msgs.specs.declared.answer.Answer.TheVariants.{Parts, Refused}
 use Rattle.wire_msgs.specs.declared.bundle.DownBundle.{DownBundle}
@@ -36,7 +36,7 @@ IsReady s = All (IsHeld s.tables) s.link
 abbrev pub tables_after_commit : Option Commit → List (Option Table) → List (Option Table)
 tables_after_commit None tables = tables
 tables_after_commit (Some m) tables =
-    slice_set tables (place_of m.context) (option_map (merged m.change) (table_of m.context tables))
+    slice_set tables (place_of m.context) (option_map (table_after m.change) (table_of m.context tables))
 
 -- the tables of a process with the first of the bundles that wait applied
 abbrev pub tables_after_take : List DownBundle → List (Option Table) → List (Option Table)

@@ -3,7 +3,7 @@ use Rattle.std.proofs.lemmas.List.{get_or_read, take_all}
 use Rattle.field_table.specs.Table.{Table}
 use Rattle.field_table.specs.declared.value.Value.{Value}
 use Rattle.field_table.proofs.Tables.{number-at}
-use Rattle.transaction.specs.Transaction.{Changes, merged}
+use Rattle.transaction.specs.Transaction.{Changes, table_after}
 use Rattle.transaction.proofs.Merging.{value_in-merged, put_at, merged_more, still_left, is_of-put}
 use Rattle.transaction.proofs.transaction.put_in.Goals as goal
 use Rattle.transaction.proofs.transaction.put_in.Goals.{in-Some, in_default}
@@ -38,4 +38,4 @@ loop-f-preserved c =
 pub returns-clause-values : goal.returns-clause-values
 returns-clause-values c f =
     let all : take c.loop-f.f-index c.args.values.now ≡ c.args.values.now = take_all c.loop-f.f-index c.args.values.now (omega arith) in
-    value_in-merged _ _ _ f (c.loop-f.invariant.done ∙ ap (λ (t : Changes). merged t c.args.fields.now) all) c.requires.table
+    value_in-merged _ _ _ f (c.loop-f.invariant.done ∙ ap (λ (t : Changes). table_after t c.args.fields.now) all) c.requires.table

@@ -25,22 +25,17 @@ fn played(
 
 #[test]
 fn runs(rt: HostRuntime) -> Result<(), Fail> {
-    for (word, input, read, write, want, told) in [
-        ("play", EMPTY, 0, 0, 0, EMPTY_REPORT),
-        ("plai", EMPTY, 0, 0, 2, ""),
-        ("", EMPTY, 0, 0, 2, ""),
-        ("play", "null", 0, 0, 4, "shape 0\n"),
+    for (word, read, write, want, told) in [
+        ("plai", 0, 0, 2, ""),
         // The first read gives the whole input, and the second one finds its end.
-        ("play", EMPTY, 1, 0, 6, ""),
-        ("play", EMPTY, 2, 0, 6, ""),
-        ("play", EMPTY, 3, 0, 0, EMPTY_REPORT),
-        // A short report is one write, and so is the line with a place.
-        ("play", EMPTY, 0, 1, 7, ""),
-        ("play", EMPTY, 0, 2, 0, EMPTY_REPORT),
-        ("play", "null", 0, 1, 7, ""),
+        ("play", 1, 0, 6, ""),
+        ("play", 3, 0, 0, EMPTY_REPORT),
+        // A short report is one write.
+        ("play", 0, 1, 7, ""),
+        ("play", 0, 2, 0, EMPTY_REPORT),
     ] {
-        let (status, text) = played(rt.alloc(), word, input, read, write)?;
-        assert_eq!(rt; status, want, "{word} {input} {read} {write}");
+        let (status, text) = played(rt.alloc(), word, EMPTY, read, write)?;
+        assert_eq!(rt; status, want, "{word} {read} {write}");
         assert_eq!(rt; text.as_slice(), told.as_bytes());
     }
     Ok(())
@@ -81,12 +76,9 @@ fn sure_ends_never_fail(rt: HostRuntime) -> Result<(), Fail> {
 
 #[test]
 fn the_exit_status(rt: HostRuntime) -> Result<(), Fail> {
-    let words = vec![in rt.alloc(); String::from_str(rt.alloc(), "play")?]?;
-    for (words, want) in [(Ok(words), 0), (Err(OutOfMemory), 1)] {
-        let mut source = SureSource::new(Vec::from_slice(rt.alloc(), EMPTY.as_bytes())?);
-        let mut sink = SureSink::new();
-        let status = ended(rt.alloc(), words, &mut source, &mut sink, &rt);
-        assert!(rt; status == ExitCode::from(want));
-    }
+    let mut source = SureSource::new(Vec::from_slice(rt.alloc(), EMPTY.as_bytes())?);
+    let mut sink = SureSink::new();
+    let status = ended(rt.alloc(), Err(OutOfMemory), &mut source, &mut sink, &rt);
+    assert!(rt; status == ExitCode::from(1));
     Ok(())
 }

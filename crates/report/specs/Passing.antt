@@ -1,16 +1,15 @@
 -- Text that is gathered before it is written, and the faults of the sink that it goes to.
-use Rattle.std.specs.Prelude.{◌≡◌, ℕ, ◌≤◌, List, ◌++◌, Result, Ok, Err, MatchResult}
+use Rattle.std.specs.Prelude.{◌≡◌, ℕ, ◌≤◌, List, Result, Ok, Err, MatchResult}
 use Rattle.std.specs.declared.option.Option.{Option}
 use Rattle.edge.specs.Causes.{Rose}
 use Rattle.edge.specs.Pieces.{BeginsTo, Begins}
 use Rattle.report.specs.declared.fault.ReportFault.{ReportFault}
 use Rattle.report.specs.declared.fault.ReportFault.TheVariants.{Failed, OutOfMemory}
 
--- a text behind what was kept: at Ok all was written but what is kept now, and at Err a front of it
-abbrev pub Passes :
-    {T E : Type 0} → (kept kept' : List ℕ) → (old new : Option (List ℕ)) → Result T E → List ℕ → Type 0
-Passes kept kept' old new result text =
-    MatchResult result (λ _. BeginsTo kept' old new (kept ++ text)) (λ _. Begins old new (kept ++ text))
+-- of a text, at Ok all was written but a rest, and at Err a front
+abbrev pub Passes : {T E : Type 0} → (text rest : List ℕ) → (old new : Option (List ℕ)) → Result T E → Type 0
+Passes text rest old new result =
+    MatchResult result (λ _. BeginsTo rest old new text) (λ _. Begins old new text)
 
 -- the count of the sink's faults rose where the sink failed, and else stayed
 abbrev pub CountsFault : {T : Type 0} → (before now : ℕ) → Result T ReportFault → Type 0

@@ -1,5 +1,5 @@
 -- The report of a scenario: its lines, each a function of the journal so far.
-use Rattle.std.specs.Prelude.{ℕ, ◌+◌, List, [], ◌∷◌, ◌++◌, length, Option, codes}
+use Rattle.std.specs.Prelude.{ℕ, ◌+◌, List, [], ◌∷◌, ◌++◌, length, Option, Some, None, codes}
 use Rattle.std.specs.Fmt.{decimal}
 use Rattle.fission_ids.specs.declared.context.ContextId.{ContextId}
 use Rattle.fission_ids.specs.Ids.{context_text}
@@ -33,10 +33,16 @@ head_text c =
     text_of_pieces (codes "fission processes " ∷ decimal (length c.types) ∷
     codes " tabs " ∷ decimal (length c.tabs) ∷ codes " actors 0\n" ∷ [])
 
--- the n-th line: a step, and what it came to
-unfoldable pub entry_text : ℕ → Step → Answer → List ℕ
-entry_text n step answer =
-    text_of_pieces (decimal n ∷ codes " " ∷ step_text step ∷ codes " " ∷ answer_text answer ∷ codes "\n" ∷ [])
+-- a number, or `+`
+abbrev pub mark_text : Option ℕ → List ℕ
+mark_text (Some n) = decimal n
+mark_text None = codes "+"
+
+-- the line of a step, and what it came to
+unfoldable pub entry_text : Option ℕ → Step → Answer → List ℕ
+entry_text mark step answer =
+    text_of_pieces (mark_text mark ∷ codes " " ∷ step_text step ∷ codes " " ∷ answer_text answer ∷
+    codes "\n" ∷ [])
 
 -- `parent`, or `p` and the number of a process
 unfoldable pub actor_text : Actor → List ℕ
@@ -67,7 +73,7 @@ run_after_line r (lines.Show show) = r
 
 -- the n-th line
 abbrev pub line_text : ℕ → Run → Line → List ℕ
-line_text n r (lines.Step step) = entry_text n step (answer_of r.config r.journal step)
+line_text n r (lines.Step step) = entry_text (Some n) step (answer_of r.config r.journal step)
 line_text n r (lines.Show (One who x f)) = show_text n who x f (value_shown r who x f)
 
 -- the lines from the n-th on

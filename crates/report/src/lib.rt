@@ -7,10 +7,12 @@ mod fault;
 mod lines;
 mod passing;
 mod playing;
+mod writing;
 
 pub use fault::ReportFault;
 pub use lines::place_line;
 pub use playing::write_report;
+pub use writing::{entry, head, last, shown};
 
 #[cfg(test)]
 mod tests;

@@ -2,7 +2,8 @@
 
 ghost use Rattle.std.specs.Prelude.{◌≡◌, IfOk, string_bytes};
 ghost use Rattle.std.specs.Option.{option_copied};
-ghost use Rattle.report.specs.Report.{place_text, head_text, entry_text, actor_text, show_text, end_text};
+ghost use Rattle.report.specs.Report.{place_text, head_text, mark_text, entry_text, actor_text, show_text};
+ghost use Rattle.report.specs.Report.{end_text};
 
 use field_table::{Field, Value};
 use fission_ids::{ContextId, OutOfMemory};
@@ -22,14 +23,29 @@ pub(crate) fn head_line(alloc: Global, config: &Config) -> Result<String, OutOfM
     Ok(format!(in alloc; "fission processes {processes} tabs {tabs} actors 0\n")?)
 }
 
+// A number, or `+` where there is none.
+fn mark_words(alloc: Global, mark: Option<u64>) -> Result<String, OutOfMemory>
+    ensures { IfOk result (λ s. string_bytes s ≡ mark_text mark) }
+{
+    match mark {
+        Some(number) => Ok(format!(in alloc; "{number}")?),
+        None => Ok(String::from_str(alloc, "+")?),
+    }
+}
+
 // The line of a step, and what it came to.
 #[tactic(auto, unfolding(crate::specs::Report::entry_text))]
-pub(crate) fn entry_line(alloc: Global, number: u64, entry: &Entry) -> Result<String, OutOfMemory>
-    ensures { IfOk result (λ s. string_bytes s ≡ entry_text number entry.now.step entry.now.answer) }
+pub(crate) fn entry_line(
+    alloc: Global,
+    mark: Option<u64>,
+    entry: &Entry,
+) -> Result<String, OutOfMemory>
+    ensures { IfOk result (λ s. string_bytes s ≡ entry_text mark entry.now.step entry.now.answer) }
 {
+    let mark = mark_words(alloc, mark)?;
     let step = step_words(alloc, &entry.step)?;
     let answer = answer_words(alloc, &entry.answer)?;
-    Ok(format!(in alloc; "{number} {step} {answer}\n")?)
+    Ok(format!(in alloc; "{mark} {step} {answer}\n")?)
 }
 
 #[tactic(auto, unfolding(crate::specs::Report::actor_text))]

@@ -1,48 +1,60 @@
-//! Text that goes to a sink in large pieces.
+//! Text that is gathered in memory, and goes to a sink in large pieces.
 
-ghost use Rattle.std.specs.Prelude.{◌≡◌, ◌<◌, ◌++◌, [], length, OnOk};
+ghost use Rattle.std.specs.Prelude.{◌≡◌, ◌<◌, [], length, OnOk, IsOk};
+ghost use Rattle.edge.specs.Memory.{written_of};
 ghost use Rattle.edge.specs.Pieces.{Writes};
 ghost use Rattle.report.specs.Passing.{Passes, CountsFault};
 
 use crate::fault::ReportFault;
-use edge::{Sink, write_all};
+use edge::{MemSink, Sink, write_all};
 use fission_ids::OutOfMemory;
+use std::alloc::Global;
 
 // How many bytes are gathered before they are written.
 const PIECE: usize = 65_536;
 
-// Writes all that is kept.
-pub(crate) fn write_kept<K: Sink>(kept: &mut Vec<u8>, sink: &mut K) -> Result<(), ReportFault>
-    ensures bytes { Writes (K.written sink.old) (K.written sink.new) result kept.old.items }
-    ensures emptied { OnOk result (kept.new.items ≡ []) }
-    ensures faults { CountsFault (K.faults sink.old) (K.faults sink.new) result }
+// Nothing is gathered yet, and no call is to fail.
+pub(crate) fn no_pieces(alloc: Global) -> MemSink
+    ensures { written_of result ≡ [] }
 {
-    write_all(sink, kept.as_slice())?;
-    kept.clear();
-    Ok(())
+    MemSink::new(alloc, Vec::new(alloc))
 }
 
-fn keep(text: &str, kept: &mut Vec<u8>) -> Result<(), OutOfMemory>
-    ensures { OnOk result (kept.new.items ≡ kept.old.items ++ text.now) }
+// What a call came to that wrote into memory, where a sink fails for want of memory alone.
+pub(crate) fn in_memory(written: Result<(), ReportFault>) -> Result<(), OutOfMemory>
+    ensures { OnOk result (IsOk written) }
 {
-    kept.extend_from_slice(text.as_bytes())?;
-    Ok(())
+    written.map_err(|_| OutOfMemory)
 }
 
-// Puts a text behind what is kept, and writes it all once it is a piece.
-pub(crate) fn pass_on<K: Sink>(
-    text: &str,
-    kept: &mut Vec<u8>,
+// Writes all that was gathered.
+pub(crate) fn pass_all<K: Sink>(
+    alloc: Global,
+    pieces: &mut MemSink,
     sink: &mut K,
 ) -> Result<(), ReportFault>
-    ensures bytes { Passes kept.old.items kept.new.items
-        (K.written sink.old) (K.written sink.new) result text.now }
-    ensures few { OnOk result (length kept.new.items < 65536) }
+    ensures bytes { Writes (K.written sink.old) (K.written sink.new) result (written_of pieces.old) }
+    ensures emptied { OnOk result (written_of pieces.new ≡ []) }
     ensures faults { CountsFault (K.faults sink.old) (K.faults sink.new) result }
 {
-    keep(text, kept)?;
-    if kept.len() < PIECE {
+    write_all(sink, pieces.bytes())?;
+    *pieces = no_pieces(alloc);
+    Ok(())
+}
+
+// Writes all that was gathered, once it is a piece.
+pub(crate) fn pass_piece<K: Sink>(
+    alloc: Global,
+    pieces: &mut MemSink,
+    sink: &mut K,
+) -> Result<(), ReportFault>
+    ensures bytes { Passes (written_of pieces.old) (written_of pieces.new)
+        (K.written sink.old) (K.written sink.new) result }
+    ensures few { OnOk result (length (written_of pieces.new) < 65536) }
+    ensures faults { CountsFault (K.faults sink.old) (K.faults sink.new) result }
+{
+    if pieces.bytes().len() < PIECE {
         return Ok(());
     }
-    write_kept(kept, sink)
+    pass_all(alloc, pieces, sink)
 }

@@ -1,9 +1,11 @@
 use super::*;
 use edge::{Failed, MemSink};
-use fission_ids::OutOfMemory;
+use fission_ids::{OutOfMemory, ProcId};
+use journal::{Entry, Step};
 use scenario::read;
 use std::alloc::Global;
 use std::test::Fail;
+use wire_msgs::{Answer, Refusal};
 
 // A scenario of this many takes that find nothing.
 fn takes(alloc: Global, count: usize) -> Result<String, Fail> {
@@ -41,6 +43,18 @@ fn pieces(rt: HostRuntime) -> Result<(), Fail> {
     let (all, result) = written(rt.alloc(), 3)?;
     assert_eq!(rt; result, Ok(()));
     assert_eq!(rt; all, whole);
+    Ok(())
+}
+
+#[test]
+fn a_delivery_has_no_number(rt: HostRuntime) -> Result<(), Fail> {
+    let empty = Entry {
+        step: Step::Take { p: ProcId(3) },
+        answer: Answer::Refused(Refusal::Empty),
+    };
+    let mut sink = MemSink::new(rt.alloc(), Vec::new(rt.alloc()));
+    entry(rt.alloc(), None, &empty, &mut sink)?;
+    assert_eq!(rt; sink.bytes(), "+ p3 take refused 9\n".as_bytes());
     Ok(())
 }
 

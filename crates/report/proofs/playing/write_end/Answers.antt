@@ -1,7 +1,0 @@
-use Rattle.std.proofs.Common.{length}
-use Rattle.report.specs.Report.{end_text}
-use Rattle.report.proofs.Kept.{errs_unwritten}
-use Rattle.report.proofs.playing.write_end.Goals as goal
-
-pub returns-in_err-line-clause-bytes : goal.returns-in_err-line-clause-bytes
-returns-in_err-line-clause-bytes g c = errs_unwritten c.from_residual.result c.args.kept.now.items c.args.kept.now.items (end_text (length c.args.world.now.journal)) (g.K.Sink.written c.args.sink.now) c.from_residual.ensures.0

@@ -1,0 +1,89 @@
+//! The lines of a report, each written by one call.
+
+ghost use Rattle.std.specs.Prelude.{◌≡◌, ℕ, List, length, string_bytes, IfOk};
+ghost use Rattle.edge.specs.Pieces.{Writes};
+ghost use Rattle.scenario.specs.declared.line.Line.TheVariants as lines;
+ghost use Rattle.scenario.specs.Fits.{LineFits};
+ghost use Rattle.report.specs.Passing.{CountsFault};
+ghost use Rattle.report.specs.Report.{head_text, entry_text, line_text, end_text};
+
+use crate::fault::ReportFault;
+use crate::lines::{end_line, entry_line, head_line, show_line};
+use edge::{Sink, write_all};
+use fission_ids::OutOfMemory;
+use journal::Entry;
+use scenario::{Actor, Show};
+use std::alloc::Global;
+use wire_msgs::Config;
+use world::World;
+
+// Writes a line, where memory sufficed to make it.
+fn write_line<K: Sink>(line: Result<String, OutOfMemory>, sink: &mut K) -> Result<(), ReportFault>
+    ensures bytes { (text : List ℕ) → IfOk line (λ s. string_bytes s ≡ text) →
+        Writes (K.written sink.old) (K.written sink.new) result text }
+    ensures faults { CountsFault (K.faults sink.old) (K.faults sink.new) result }
+{
+    let line = line?;
+    write_all(sink, line.as_bytes())?;
+    Ok(())
+}
+
+/// Writes the first line: how many processes and tabs there are. After an error a front of it was written.
+/// `Failed` comes exactly where the sink failed.
+pub fn head<K: Sink>(alloc: Global, config: &Config, sink: &mut K) -> Result<(), ReportFault>
+    ensures bytes { Writes (K.written sink.old) (K.written sink.new) result (head_text config.now) }
+    ensures faults { CountsFault (K.faults sink.old) (K.faults sink.new) result }
+{
+    write_line(head_line(alloc, config), sink)
+}
+
+/// Writes the line of a step and what it came to, under a number, or under `+` where none is given. After an
+/// error a front of it was written. `Failed` comes exactly where the sink failed.
+pub fn entry<K: Sink>(
+    alloc: Global,
+    mark: Option<u64>,
+    entry: &Entry,
+    sink: &mut K,
+) -> Result<(), ReportFault>
+    ensures bytes { Writes (K.written sink.old) (K.written sink.new) result
+        (entry_text mark entry.now.step entry.now.answer) }
+    ensures faults { CountsFault (K.faults sink.old) (K.faults sink.new) result }
+{
+    write_line(entry_line(alloc, mark, entry), sink)
+}
+
+/// Writes what one side shows of a field of a context. After an error a front of the line was written.
+/// `Failed` comes exactly where the sink failed.
+pub fn shown<K: Sink>(
+    alloc: Global,
+    number: u64,
+    world: &World,
+    show: Show,
+    sink: &mut K,
+) -> Result<(), ReportFault>
+    requires { LineFits (length world.now.config.types) (lines.Show show) }
+    ensures bytes { Writes (K.written sink.old) (K.written sink.new) result
+        (line_text number world.now (lines.Show show)) }
+    ensures faults { CountsFault (K.faults sink.old) (K.faults sink.new) result }
+{
+    let Show::One {
+        who,
+        context,
+        field,
+    } = show;
+    let value = match who {
+        Actor::Parent => world.parent_field(context, field),
+        Actor::Process(p) => world.process_field(p, context, field),
+    };
+    write_line(show_line(alloc, number, who, context, field, value), sink)
+}
+
+/// Writes the last line: how many entries the journal has. After an error a front of it was written. `Failed`
+/// comes exactly where the sink failed.
+pub fn last<K: Sink>(alloc: Global, world: &World, sink: &mut K) -> Result<(), ReportFault>
+    ensures bytes { Writes (K.written sink.old) (K.written sink.new) result
+        (end_text (length world.now.journal)) }
+    ensures faults { CountsFault (K.faults sink.old) (K.faults sink.new) result }
+{
+    write_line(end_line(alloc, world.journal().entries().len()), sink)
+}

@@ -4,13 +4,13 @@ use Rattle.std.specs.Prelude.{nat_lt}
 use Rattle.std.proofs.lemmas.Bool.{lt-ltb, le-ltb}
 use Rattle.traces.specs.Event.{Bundle}
 use Rattle.traces.specs.Event.Event.{Sends, Takes, Accepts, Reverts, Ignores, Changes}
-use Rattle.traces.specs.Links.{heard, bundles_waiting, last_sent, now}
+use Rattle.traces.specs.Links.{hears, bundles_waiting, last_sending, now}
 use Rattle.traces.specs.Field.{FieldEvent, Trace}
 use Rattle.traces.specs.Words.{or_else, value, value_at, base, accepted_at}
 use Rattle.traces.specs.Rules.{Flows, Order, Ordered}
 use Rattle.traces.proofs.Waits.{sent_waits, taken_leaves}
 
-pub last_sent_past : {V : Type 0} (h : Trace V) → Ordered h → last_sent h ≤ now h
+pub last_sent_past : {V : Type 0} (h : Trace V) → Ordered h → last_sending h ≤ now h
 last_sent_past [] o = omega arith
 last_sent_past (Sends k u c ∷ h) o = omega arith
 last_sent_past (Reverts k w c ∷ h) o = omega arith
@@ -36,24 +36,24 @@ pub rising_end : {B : Type 0} (b n e : ℕ) (ds : List (Bundle B)) → Rising b 
 rising_end b n e [] r = r
 rising_end b n e (d ∷ ds) r = omega (arith, r.0, rising_end d.entry n e ds r.2)
 
-pub rising : {V : Type 0} (h : Trace V) → Flows h → Ordered h → Rising (base h) (last_sent h) (heard h) (bundles_waiting h)
+pub rising : {V : Type 0} (h : Trace V) → Flows h → Ordered h → Rising (base h) (last_sending h) (hears h) (bundles_waiting h)
 rising [] f o = omega arith
 rising (Sends k u c ∷ h) f o =
-    subst (λ ds. Rising (base h) k (heard h) ds) (sym (sent_waits (record { entry = k; epoch = heard h; content = c }) h f.1))
-    (rising_push (base h) (last_sent h) (heard h) (record { entry = k; epoch = heard h; content = c }) (bundles_waiting h) o.0.once (omega arith) (rising h f.1 o.1))
+    subst (λ ds. Rising (base h) k (hears h) ds) (sym (sent_waits (record { entry = k; epoch = hears h; content = c }) h f.1))
+    (rising_push (base h) (last_sending h) (hears h) (record { entry = k; epoch = hears h; content = c }) (bundles_waiting h) o.0.once (omega arith) (rising h f.1 o.1))
 rising (Reverts k w c ∷ h) f o =
-    subst (λ ds. Rising (base h) k (heard h + 1) ds) (sym (sent_waits (record { entry = k; epoch = heard h + 1; content = c }) h f.1))
-    (rising_push (base h) (last_sent h) (heard h + 1) (record { entry = k; epoch = heard h + 1; content = c }) (bundles_waiting h)
-    (omega (arith, o.0, last_sent_past h o.1)) (omega arith) (rising_heard (base h) (last_sent h) (heard h) (bundles_waiting h) (rising h f.1 o.1)))
-rising (Accepts k w ∷ h) f o = rising_heard (base h) (last_sent h) (heard h) (bundles_waiting h) (rising h f.1 o.1)
-rising (Ignores k w ∷ h) f o = rising_heard (base h) (last_sent h) (heard h) (bundles_waiting h) (rising h f.1 o.1)
+    subst (λ ds. Rising (base h) k (hears h + 1) ds) (sym (sent_waits (record { entry = k; epoch = hears h + 1; content = c }) h f.1))
+    (rising_push (base h) (last_sending h) (hears h + 1) (record { entry = k; epoch = hears h + 1; content = c }) (bundles_waiting h)
+    (omega (arith, o.0, last_sent_past h o.1)) (omega arith) (rising_heard (base h) (last_sending h) (hears h) (bundles_waiting h) (rising h f.1 o.1)))
+rising (Accepts k w ∷ h) f o = rising_heard (base h) (last_sending h) (hears h) (bundles_waiting h) (rising h f.1 o.1)
+rising (Ignores k w ∷ h) f o = rising_heard (base h) (last_sending h) (hears h) (bundles_waiting h) (rising h f.1 o.1)
 rising (Takes d ∷ h) f o =
-    let r : Rising (base h) (last_sent h) (heard h) (d ∷ f.0.rest) = subst (λ ds. Rising (base h) (last_sent h) (heard h) ds) f.0.is (rising h f.1 o.1) in
-    subst (λ ds. Rising d.entry (last_sent h) (heard h) ds) (sym (taken_leaves d h f.0)) r.2
+    let r : Rising (base h) (last_sending h) (hears h) (d ∷ f.0.rest) = subst (λ ds. Rising (base h) (last_sending h) (hears h) ds) f.0.is (rising h f.1 o.1) in
+    subst (λ ds. Rising d.entry (last_sending h) (hears h) ds) (sym (taken_leaves d h f.0)) r.2
 rising (_ ∷ h) f o = rising h f.1 o.1
 
 pub base_past : {V : Type 0} (h : Trace V) → Flows h → Ordered h → base h ≤ now h
-base_past h f o = omega (arith, rising_end (base h) (last_sent h) (heard h) (bundles_waiting h) (rising h f o), last_sent_past h o)
+base_past h f o = omega (arith, rising_end (base h) (last_sending h) (hears h) (bundles_waiting h) (rising h f o), last_sent_past h o)
 
 pub accepted_past : {V : Type 0} (h : Trace V) → Ordered h → accepted_at h ≤ now h
 accepted_past [] o = omega arith
@@ -75,7 +75,7 @@ value_past initial k (Reverts j w c ∷ h) o l = value_past initial k h o.1 (ome
 value_past initial k (Ignores j w ∷ h) o l = value_past initial k h o.1 (omega (arith, o.0))
 value_past initial k (_ ∷ h) o l = value_past initial k h o.1 l
 
-same_either : {V : Type 0} (b : Bool) (x : V) → (if b then x else x) ≡ x
+pub same_either : {V : Type 0} (b : Bool) (x : V) → (if b then x else x) ≡ x
 same_either true x = refl
 same_either false x = refl
 

@@ -1,88 +1,127 @@
--- An ignored write: the parent serves the context no more, so nothing that isn't obsolete gives a value.
-use Rattle.std.proofs.Common.{◌≡◌, ℕ, ◌+◌, ◌<◌, ◌⊎◌, inl, inr, Option, None, Some, List, [], ◌∷◌, ◌++◌, refl, sym, subst, ◌∙◌, arith}
+-- An ignored write: the parent judges no write of the process, so a removal waits or the process was ended, and what gives
+-- a value before that removal was sent before the verdict.
+use Rattle.std.proofs.Common.{◌≡◌, ℕ, ◌+◌, ◌<◌, Bool, true, false, ◌⊎◌, inl, inr, None, Some, List, [], ◌∷◌, ◌++◌, refl, sym, subst, ◌∙◌, arith}
 use Rattle.std.proofs.lemmas.Bool.{cases_eq}
 use Rattle.traces.specs.Event.{Bundle}
-use Rattle.traces.specs.Event.Event.{Writes, Sends, Takes, Accepts, Reverts, Ignores, Ends}
-use Rattle.traces.specs.Links.{heard, written, bundles_waiting, last_sent}
+use Rattle.traces.specs.Event.Event.{Writes, Sends, Takes, Accepts, Reverts, Ignores, Does, Ends}
+use Rattle.traces.specs.Links.{hears, last_write, bundles_waiting, is_ended, last_sending}
 use Rattle.traces.specs.Field.{Content, Trace}
-use Rattle.traces.specs.Field.Content.{Nothing, Gives, Begins, Removes}
-use Rattle.traces.specs.Words.{Start, served, newest, base, fate}
-use Rattle.traces.specs.Words.Stage.{Coming, Held, Gone}
+use Rattle.traces.specs.Field.Content.{Nothing, Gives, Begins, Removes, Leaves}
+use Rattle.traces.specs.Words.{Start, after, stage, stage_behind, newest, number_after, last_leaving, base, fate}
+use Rattle.traces.specs.Words.Stage.{Held, Gone}
 use Rattle.traces.specs.Words.Fate.{Unheard, Accepted, Reverted, Ignored}
-use Rattle.traces.specs.Rules.{Flows, Ordered, Tells, Fits}
+use Rattle.traces.specs.Rules.{Flows, Ordered, Fits, IsStay, Stays}
 use Rattle.traces.proofs.Waits.{sent_waits, taken_leaves, waiting_count}
-use Rattle.traces.proofs.Numbers.{hears_other}
+use Rattle.traces.proofs.Numbers.{hears_other, SinceLeft, since_left, latest}
 use Rattle.traces.proofs.Entries.{Rising, rising, rising_end, last_sent_past}
 use Rattle.traces.proofs.Fates.{other_fate, unheard}
+use Rattle.traces.proofs.Stages.{along, alive_before, written_held_or_gone}
 use Rattle.traces.proofs.Judged.{same_fate}
 
-pub ignored_gone : {V : Type 0} (start : Start V) (k : ℕ) (h : Trace V) → Flows h → Fits start h → fate (newest h) h ≡ Ignored k → served start.stage h ≡ Gone
-ignored_gone start k [] f t e = absurd cc
-ignored_gone start k (Writes None ∷ h) f t e = ignored_gone start k h f.1 t.1 e
-ignored_gone start k (Writes (Some v) ∷ h) f t e =
-    let i : fate (written h + 1) h ≡ Unheard = unheard (written h + 1) h (omega (arith, waiting_count h f.1)) in absurd cc
-ignored_gone start k (Sends j u Nothing ∷ h) f t e = ignored_gone start k h f.1 t.1 e
-ignored_gone start k (Sends j u (Gives v) ∷ h) f t e = ignored_gone start k h f.1 t.1 e
-ignored_gone start k (Sends j u (Begins v) ∷ h) f t e = let gone : served start.stage h ≡ Gone = ignored_gone start k h f.1 t.1 e in let coming : served start.stage h ≡ Coming = t.0.1 in absurd cc
-ignored_gone start k (Sends j u Removes ∷ h) f t e = refl
-ignored_gone start k (Accepts j w ∷ h) f t e = ignored_gone start k h f.1 t.1 (same_fate (newest h) (Accepted j) (Ignored k) h (λ x. cc) e)
-ignored_gone start k (Reverts j w c ∷ h) f t e =
-    let gone : served start.stage h ≡ Gone = ignored_gone start k h f.1 t.1 (same_fate (newest h) (Reverted j) (Ignored k) h (λ x. cc) e) in
-    let held : served start.stage h ≡ Held = t.0.serves in absurd cc
-ignored_gone start k (Ignores j None ∷ h) f t e =
-    ignored_gone start k h f.1 t.1 (sym (other_fate (newest h) (heard h + 1) (Ignored j) (fate (newest h) h) (hears_other start.initial h f.1 f.0)) ∙ e)
-ignored_gone start k (Ignores j (Some v) ∷ h) f t e = t.0
-ignored_gone start k (Ends ∷ h) f t e = refl
-ignored_gone start k (_ ∷ h) f t e = ignored_gone start k h f.1 t.1 e
+-- of one bundle: a removal, or what gives a value was sent before, and so on behind it
+abbrev pub CutAt : {V : Type 0} → Content V → Type 0 → Type 0 → Type 0
+CutAt (Gives v) older rest = older × rest
+CutAt Removes older rest = Unit {0}
+CutAt Leaves older rest = Unit {0}
+CutAt _ older rest = rest
 
-abbrev pub IfGives : {V : Type 0} → Content V → Type 0 → Type 0
-IfGives (Gives v) P = P
-IfGives _ P = Unit {0}
+-- a removal waits, or the process was ended, and what gives a value before that was sent before entry k
+abbrev pub Cut : {V : Type 0} → ℕ → Bool → List (Bundle (Content V)) → Type 0
+Cut k ended [] = ended ≡ true
+Cut k ended (d ∷ ds) = CutAt d.content (d.entry < k) (Cut k ended ds)
 
-if_gives : {V : Type 0} (c : Content V) (P : Type 0) → P → IfGives c P
-if_gives Nothing P p = tt
-if_gives (Gives v) P p = p
-if_gives (Begins v) P p = tt
-if_gives Removes P p = tt
+cut_map : {V : Type 0} (c : Content V) (P Q R : Type 0) → (Q → R) → CutAt c P Q → CutAt c P R
+cut_map Nothing P Q R f a = f a
+cut_map (Gives v) P Q R f a = (a.0, f a.1)
+cut_map (Begins v) P Q R f a = f a
+cut_map Removes P Q R f a = tt
+cut_map Leaves P Q R f a = tt
 
--- what gives a value was sent before entry k
-abbrev pub GivenBefore : {V : Type 0} → ℕ → List (Bundle (Content V)) → Type 0
-GivenBefore k [] = Unit {0}
-GivenBefore k (d ∷ ds) = IfGives d.content (d.entry < k) × GivenBefore k ds
+-- a removal that waits goes on waiting, whatever is sent
+cut_push : {V : Type 0} (k : ℕ) (ended : Bool) (d : Bundle (Content V)) (ds : List (Bundle (Content V))) → Cut k false ds → Cut k ended (ds ++ d ∷ [])
+cut_push k ended d [] a = absurd cc
+cut_push k ended d (x ∷ ds) a = cut_map x.content (x.entry < k) (Cut k false ds) (Cut k ended (ds ++ d ∷ [])) (cut_push k ended d ds) a
 
-all_before : {V : Type 0} (k b n e : ℕ) (ds : List (Bundle (Content V))) → n < k → Rising b n e ds → GivenBefore k ds
-all_before k b n e [] l r = tt
-all_before k b n e (d ∷ ds) l r = (if_gives d.content (d.entry < k) (omega (arith, rising_end d.entry n e ds r.2)), all_before k d.entry n e ds l r.2)
+cut_ended : {V : Type 0} (k : ℕ) (ended : Bool) (ds : List (Bundle (Content V))) → Cut k ended ds → Cut k true ds
+cut_ended k ended [] a = refl
+cut_ended k ended (x ∷ ds) a = cut_map x.content (x.entry < k) (Cut k ended ds) (Cut k true ds) (cut_ended k ended ds) a
 
-before_push : {V : Type 0} (k : ℕ) (d : Bundle (Content V)) (ds : List (Bundle (Content V))) → IfGives d.content (d.entry < k) → GivenBefore k ds → GivenBefore k (ds ++ d ∷ [])
-before_push k d [] p g = (p, tt)
-before_push k d (x ∷ ds) p g = (g.0, before_push k d ds p g.1)
+cut_at : {V : Type 0} (c : Content V) (P Q : Type 0) → P → (IsStay c → after c Held ≡ Held → Q) → CutAt c P Q
+cut_at Nothing P Q p f = f tt refl
+cut_at (Gives v) P Q p f = (p, f tt refl)
+cut_at (Begins v) P Q p f = f tt refl
+cut_at Removes P Q p f = tt
+cut_at Leaves P Q p f = tt
 
-gives_nothing : {V : Type 0} (start : Start V) (u : Option V) (c : Content V) (P : Type 0) (h : Trace V) → Tells start u c h → served start.stage h ≡ Gone → IfGives c P
-gives_nothing start u Nothing P h t g = tt
-gives_nothing start u (Gives v) P h t g = let held : served start.stage h ≡ Held = t.1 in absurd cc
-gives_nothing start u (Begins v) P h t g = tt
-gives_nothing start u Removes P h t g = tt
+-- from a held context what waits leads to one that isn't, or a leave waits: then it is cut
+cut_judged : {V : Type 0} (k b n e : ℕ) (ended : Bool) (ds : List (Bundle (Content V))) → n < k → Rising b n e ds
+    → (ended ≡ false → Stays ds → stage_behind Held ds ≡ Held → ⊥) → Cut k ended ds
+cut_judged k b n e true [] l r g = refl
+cut_judged k b n e false [] l r g = absurd (g refl tt refl)
+cut_judged k b n e ended (d ∷ ds) l r g =
+    cut_at d.content (d.entry < k) (Cut k ended ds) (omega (arith, rising_end d.entry n e ds r.2))
+    (λ s i. cut_judged k d.entry n e ended ds l r.2 (λ live stays held. g live (s, stays) (subst (λ z. stage_behind z ds ≡ Held) (sym i) held)))
 
--- where the newest write was ignored in entry k, what waits gives values of before k alone
-pub ignored_before : {V : Type 0} (start : Start V) (k : ℕ) (h : Trace V) → Flows h → Ordered h → Fits start h → fate (newest h) h ≡ Ignored k → GivenBefore k (bundles_waiting h)
-ignored_before start k [] f o t e = absurd cc
-ignored_before start k (Writes None ∷ h) f o t e = ignored_before start k h f.1 o.1 t.1 e
-ignored_before start k (Writes (Some v) ∷ h) f o t e =
-    let i : fate (written h + 1) h ≡ Unheard = unheard (written h + 1) h (omega (arith, waiting_count h f.1)) in absurd cc
-ignored_before start k (Sends j u c ∷ h) f o t e =
-    subst (λ ds. GivenBefore k ds) (sym (sent_waits (record { entry = j; epoch = heard h; content = c }) h f.1))
-    (before_push k (record { entry = j; epoch = heard h; content = c }) (bundles_waiting h) (gives_nothing start u c (j < k) h t.0 (ignored_gone start k h f.1 t.1 e)) (ignored_before start k h f.1 o.1 t.1 e))
-ignored_before start k (Takes d ∷ h) f o t e =
-    let g : GivenBefore k (d ∷ f.0.rest) = subst (λ ds. GivenBefore k ds) f.0.is (ignored_before start k h f.1 o.1 t.1 e) in
-    subst (λ ds. GivenBefore k ds) (sym (taken_leaves d h f.0)) g.1
-ignored_before start k (Accepts j w ∷ h) f o t e = ignored_before start k h f.1 o.1 t.1 (same_fate (newest h) (Accepted j) (Ignored k) h (λ x. cc) e)
-ignored_before start k (Reverts j w c ∷ h) f o t e =
-    let gone : served start.stage h ≡ Gone = ignored_gone start k h f.1 t.1 (same_fate (newest h) (Reverted j) (Ignored k) h (λ x. cc) e) in
-    let held : served start.stage h ≡ Held = t.0.serves in absurd cc
-ignored_before start k (Ignores j w ∷ h) f o t e = go (cases_eq j k) (ignored_before start k h f.1 o.1 t.1)
+-- where a bundle leaves the context there and a number kept, nothing was cut by it
+cut_taken : {V : Type 0} (c : Content V) (P Q : Type 0) → (after c Held ≡ Gone → ⊥) → (m : ℕ) → 0 < number_after c m → CutAt c P Q → Q
+cut_taken Nothing P Q ne m l a = a
+cut_taken (Gives v) P Q ne m l a = a.1
+cut_taken (Begins v) P Q ne m l a = a
+cut_taken Removes P Q ne m l a = absurd (ne refl)
+cut_taken Leaves P Q ne m l a = absurd (omega (arith, l))
+
+-- a number that is kept after a bundle was kept before
+pub number_before : {V : Type 0} (c : Content V) (m : ℕ) → 0 < number_after c m → number_after c m ≡ m
+number_before Leaves m l = absurd (omega (arith, l))
+number_before _ m l = refl
+
+-- where the newest write was ignored in entry k
+pub ignored_cut : {V : Type 0} (start : Start V) (k : ℕ) (h : Trace V) → Flows h → Ordered h → Fits start h → 0 < newest h → (stage start.stage h ≡ Gone → ⊥)
+    → fate (newest h) h ≡ Ignored k → Cut k (is_ended h) (bundles_waiting h)
+ignored_cut start k [] f o t l ne e = absurd cc
+ignored_cut start k (Writes None ∷ h) f o t l ne e = ignored_cut start k h f.1 o.1 t.1 l ne e
+ignored_cut start k (Writes (Some v) ∷ h) f o t l ne e =
+    let i : fate (last_write h + 1) h ≡ Unheard = unheard (last_write h + 1) h (omega (arith, waiting_count h f.1)) in absurd cc
+ignored_cut start k (Sends j u c ∷ h) f o t l ne e =
+    let a : Cut k false (bundles_waiting h) = subst (λ z. Cut k z (bundles_waiting h)) f.0 (ignored_cut start k h f.1 o.1 t.1 l ne e) in
+    subst (λ ds. Cut k (is_ended h) ds) (sym (sent_waits (record { entry = j; epoch = hears h; content = c }) h f.1))
+    (cut_push k (is_ended h) (record { entry = j; epoch = hears h; content = c }) (bundles_waiting h) a)
+ignored_cut start k (Reverts j w c ∷ h) f o t l ne e =
+    let a : Cut k false (bundles_waiting h) =
+    subst (λ z. Cut k z (bundles_waiting h)) f.0.alive (ignored_cut start k h f.1 o.1 t.1 l ne (same_fate (newest h) (Reverted j) (Ignored k) h (λ x. cc) e)) in
+    subst (λ ds. Cut k (is_ended h) ds) (sym (sent_waits (record { entry = j; epoch = hears h + 1; content = c }) h f.1))
+    (cut_push k (is_ended h) (record { entry = j; epoch = hears h + 1; content = c }) (bundles_waiting h) a)
+ignored_cut start k (Takes d ∷ h) f o t l ne e =
+    let same : number_after d.content (newest h) ≡ newest h = number_before d.content (newest h) l in
+    let alive : stage start.stage h ≡ Gone → ⊥ = alive_before d.content (stage start.stage h) ne in
+    let l1 : 0 < newest h = omega (arith, same, l) in
+    let held : stage start.stage h ≡ Held = written_held_or_gone start h t.1 l1 alive in
+    let a : Cut k (is_ended h) (d ∷ f.0.rest) = subst (λ ds. Cut k (is_ended h) ds) f.0.is (ignored_cut start k h f.1 o.1 t.1 l1 alive (subst (λ z. fate z h ≡ Ignored k) same e)) in
+    subst (λ ds. Cut k (is_ended h) ds) (sym (taken_leaves d h f.0))
+    (cut_taken d.content (d.entry < k) (Cut k (is_ended h) f.0.rest) (subst (λ z. after d.content z ≡ Gone → ⊥) held ne) (newest h) l a)
+ignored_cut start k (Does c ∷ h) f o t l ne e = ignored_cut start k h f.1 o.1 t.1 l (alive_before c (stage start.stage h) ne) e
+ignored_cut start k (Accepts j w ∷ h) f o t l ne e = ignored_cut start k h f.1 o.1 t.1 l ne (same_fate (newest h) (Accepted j) (Ignored k) h (λ x. cc) e)
+ignored_cut start k (Ignores j None ∷ h) f o t l ne e =
+    ignored_cut start k h f.1 o.1 t.1 l ne (sym (other_fate (newest h) (hears h + 1) (Ignored j) (fate (newest h) h) (hears_other start.initial h f.1 f.0)) ∙ e)
+ignored_cut {V = V} start k (Ignores j (Some v) ∷ h) f o t l ne e = go (cases_eq (newest h) (hears h + 1)) (cases_eq j k) (ignored_cut start k h f.1 o.1 t.1 l ne)
   where
-    go : ((j ≡ k) ⊎ (j ≡ k → ⊥)) → (fate (newest h) h ≡ Ignored k → GivenBefore k (bundles_waiting h)) → GivenBefore k (bundles_waiting h)
-    go (inl i) before = all_before k (base h) (last_sent h) (heard h) (bundles_waiting h) (omega (arith, o.0, last_sent_past h o.1)) (rising h f.1 o.1)
-    go (inr i) before = before (same_fate (newest h) (Ignored j) (Ignored k) h (λ x. let same : j ≡ k = cc in i same) e)
-ignored_before start k (_ ∷ h) f o t e = ignored_before start k h f.1 o.1 t.1 e
+    held : stage start.stage h ≡ Held
+    held = written_held_or_gone start h t.1 l ne
+
+    since : SinceLeft (newest h) (latest h) (last_leaving h) → last_leaving h < newest h
+    since (inl i) = i.1
+    since (inr i) = absurd (omega (arith, l, i.0))
+
+    judges : newest h ≡ hears h + 1 → is_ended h ≡ false → Stays (bundles_waiting h) → stage_behind Held (bundles_waiting h) ≡ Held → ⊥
+    judges i live stays served = t.0 ne record {
+      serves = sym (along start.stage h f.1 live) ∙ subst (λ z. stage_behind z (bundles_waiting h) ≡ Held) (sym held) served;
+      since = omega (arith, i, since (since_left h));
+      stays = stays;
+    }
+
+    go : ((newest h ≡ hears h + 1) ⊎ (newest h ≡ hears h + 1 → ⊥)) → ((j ≡ k) ⊎ (j ≡ k → ⊥)) → (fate (newest h) h ≡ Ignored k → Cut k (is_ended h) (bundles_waiting h)) → Cut k (is_ended h) (bundles_waiting h)
+    go (inl i) (inl same) before = cut_judged k (base h) (last_sending h) (hears h) (is_ended h) (bundles_waiting h) (omega (arith, same, o.0, last_sent_past h o.1)) (rising h f.1 o.1) (judges i)
+    go (inl i) (inr other) before = before (same_fate (newest h) (Ignored j) (Ignored k) h (λ x. let same : j ≡ k = cc in other same) e)
+    go (inr i) x before = before (sym (other_fate (newest h) (hears h + 1) (Ignored j) (fate (newest h) h) i) ∙ e)
+ignored_cut start k (Ends ∷ h) f o t l ne e = cut_ended k (is_ended h) (bundles_waiting h) (ignored_cut start k h f.1 o.1 t.1 l ne e)
+ignored_cut start k (_ ∷ h) f o t l ne e = ignored_cut start k h f.1 o.1 t.1 l ne e

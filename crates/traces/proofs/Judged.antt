@@ -4,10 +4,10 @@ use Rattle.std.specs.Prelude.{◌==◌}
 use Rattle.std.proofs.lemmas.Bool.{eqb-true, eqb-false, cases_eq, or_cases, or_parts}
 use Rattle.traces.specs.Event.{Bundle}
 use Rattle.traces.specs.Event.Event.{Sends, Takes, Accepts, Reverts, Ignores, Changes}
-use Rattle.traces.specs.Links.{heard, bundles_sent, takes, bundles_waiting, last_sent, now}
+use Rattle.traces.specs.Links.{hears, bundles_sent, takes, bundles_waiting, last_sending, now}
 use Rattle.traces.specs.Field.{Content, Trace}
 use Rattle.traces.specs.Field.Content.{Gives}
-use Rattle.traces.specs.Words.{Start, value_at, base, Fate, fate, took}
+use Rattle.traces.specs.Words.{Start, value_at, base, Fate, fate, has_taken}
 use Rattle.traces.specs.Words.Fate.{Unheard, Accepted, Reverted, Ignored}
 use Rattle.traces.specs.Rules.{IsFirst, Flows, Ordered, Fits}
 use Rattle.traces.specs.Laws.{Stands}
@@ -15,16 +15,16 @@ use Rattle.traces.proofs.Waits.{sent_waits, taken_leaves}
 use Rattle.traces.proofs.Entries.{Rising, rising, value_past, value_over}
 use Rattle.traces.proofs.Fates.{other_fate, made_fate, entry_of, judged_past}
 
-judged_by : {V : Type 0} (n : ℕ) (made : Fate) (h : Trace V) → n ≤ heard h + 1 → (made ≡ Unheard → ⊥) → (n ≤ heard h → fate n h ≡ Unheard → ⊥)
-    → (if n == (heard h + 1) then made else fate n h) ≡ Unheard → ⊥
-judged_by n made h l ne before e = go (cases_eq n (heard h + 1))
+judged_by : {V : Type 0} (n : ℕ) (made : Fate) (h : Trace V) → n ≤ hears h + 1 → (made ≡ Unheard → ⊥) → (n ≤ hears h → fate n h ≡ Unheard → ⊥)
+    → (if n == (hears h + 1) then made else fate n h) ≡ Unheard → ⊥
+judged_by n made h l ne before e = go (cases_eq n (hears h + 1))
   where
-    go : ((n ≡ heard h + 1) ⊎ (n ≡ heard h + 1 → ⊥)) → ⊥
-    go (inl i) = ne (sym (made_fate n (heard h + 1) made (fate n h) i) ∙ e)
-    go (inr i) = before (omega arith) (sym (other_fate n (heard h + 1) made (fate n h) i) ∙ e)
+    go : ((n ≡ hears h + 1) ⊎ (n ≡ hears h + 1 → ⊥)) → ⊥
+    go (inl i) = ne (sym (made_fate n (hears h + 1) made (fate n h) i) ∙ e)
+    go (inr i) = before (omega arith) (sym (other_fate n (hears h + 1) made (fate n h) i) ∙ e)
 
 -- a write that was heard was judged
-pub heard_judged : {V : Type 0} (n : ℕ) (h : Trace V) → 0 < n → n ≤ heard h → fate n h ≡ Unheard → ⊥
+pub heard_judged : {V : Type 0} (n : ℕ) (h : Trace V) → 0 < n → n ≤ hears h → fate n h ≡ Unheard → ⊥
 heard_judged n [] p l e = omega arith
 heard_judged n (Accepts k w ∷ h) p l e = judged_by n (Accepted k) h l (λ i. cc) (λ m. heard_judged n h p m) e
 heard_judged n (Reverts k w c ∷ h) p l e = judged_by n (Reverted k) h l (λ i. cc) (λ m. heard_judged n h p m) e
@@ -32,18 +32,18 @@ heard_judged n (Ignores k w ∷ h) p l e = judged_by n (Ignored k) h l (λ i. cc
 heard_judged n (_ ∷ h) p l e = heard_judged n h p l e
 
 -- a bundle that was taken is no later than the base
-pub took_base : {V : Type 0} (k : ℕ) (h : Trace V) → Flows h → Ordered h → took k h ≡ true → k ≤ base h
+pub took_base : {V : Type 0} (k : ℕ) (h : Trace V) → Flows h → Ordered h → has_taken k h ≡ true → k ≤ base h
 took_base k [] f o e = absurd cc
 took_base k (Takes d ∷ h) f o e =
-    let r : Rising (base h) (last_sent h) (heard h) (d ∷ f.0.rest) = subst (λ ds. Rising (base h) (last_sent h) (heard h) ds) f.0.is (rising h f.1 o.1) in
-    go r.0 (took_base k h f.1 o.1) (or_cases (d.entry == k) (took k h) e)
+    let r : Rising (base h) (last_sending h) (hears h) (d ∷ f.0.rest) = subst (λ ds. Rising (base h) (last_sending h) (hears h) ds) f.0.is (rising h f.1 o.1) in
+    go r.0 (took_base k h f.1 o.1) (or_cases (d.entry == k) (has_taken k h) e)
   where
-    go : base h < d.entry → (took k h ≡ true → k ≤ base h) → (((d.entry == k) ≡ true) ⊎ (took k h ≡ true)) → k ≤ d.entry
+    go : base h < d.entry → (has_taken k h ≡ true → k ≤ base h) → (((d.entry == k) ≡ true) ⊎ (has_taken k h ≡ true)) → k ≤ d.entry
     go l before (inl i) = omega (arith, eqb-true d.entry k i)
     go l before (inr i) = omega (arith, before i)
 took_base k (_ ∷ h) f o e = took_base k h f.1 o.1 e
 
-stands_push : {V : Type 0} (k : ℕ) (c : Content V) (d : Bundle (Content V)) (ds : List (Bundle (Content V))) → Stands k c ds → Stands k c (ds ++ d ∷ [])
+pub stands_push : {V : Type 0} (k : ℕ) (c : Content V) (d : Bundle (Content V)) (ds : List (Bundle (Content V))) → Stands k c ds → Stands k c (ds ++ d ∷ [])
 stands_push k c d [] s = absurd s
 stands_push k c d (x ∷ ds) (inl e) = inl e
 stands_push k c d (x ∷ ds) (inr s) = inr (stands_push k c d ds s)
@@ -71,25 +71,25 @@ stands_taken k c d h f ne s = subst (λ ds. Stands k c ds) (sym (taken_leaves d 
     go (inr i) = i
 
 -- a judged hear of another number, where the fate is already known
-pub same_fate : {V : Type 0} (n : ℕ) (made known : Fate) (h : Trace V) → (made ≡ known → ⊥) → (if n == (heard h + 1) then made else fate n h) ≡ known → fate n h ≡ known
-same_fate n made known h ne e = go (cases_eq n (heard h + 1))
+pub same_fate : {V : Type 0} (n : ℕ) (made known : Fate) (h : Trace V) → (made ≡ known → ⊥) → (if n == (hears h + 1) then made else fate n h) ≡ known → fate n h ≡ known
+same_fate n made known h ne e = go (cases_eq n (hears h + 1))
   where
-    go : ((n ≡ heard h + 1) ⊎ (n ≡ heard h + 1 → ⊥)) → fate n h ≡ known
-    go (inl i) = absurd (ne (sym (made_fate n (heard h + 1) made (fate n h) i) ∙ e))
-    go (inr i) = sym (other_fate n (heard h + 1) made (fate n h) i) ∙ e
+    go : ((n ≡ hears h + 1) ⊎ (n ≡ hears h + 1 → ⊥)) → fate n h ≡ known
+    go (inl i) = absurd (ne (sym (made_fate n (hears h + 1) made (fate n h) i) ∙ e))
+    go (inr i) = sym (other_fate n (hears h + 1) made (fate n h) i) ∙ e
 
 reverted_past : {V : Type 0} (n k : ℕ) (h : Trace V) → Ordered h → fate n h ≡ Reverted k → k ≤ now h
 reverted_past n k h o e = subst (λ f. entry_of f ≤ now h) e (judged_past n h o)
 
 -- a reverted write whose revert wasn't taken has it in the waiting bundle of its entry
-pub reverts_wait : {V : Type 0} (start : Start V) (n k : ℕ) (h : Trace V) → Flows h → Ordered h → Fits start h → fate n h ≡ Reverted k → took k h ≡ false
+pub reverts_wait : {V : Type 0} (start : Start V) (n k : ℕ) (h : Trace V) → Flows h → Ordered h → Fits start h → fate n h ≡ Reverted k → has_taken k h ≡ false
     → Stands k (Gives (value_at start.initial k h)) (bundles_waiting h)
 reverts_wait start n k [] f o t e u = absurd cc
 reverts_wait start n k (Sends j w c ∷ h) f o t e u =
     subst (λ v. Stands k (Gives v) (bundles_waiting (Sends j w c ∷ h))) (sym (value_over start.initial k (Sends j w c) h o.0 (reverted_past n k h o.1 e)))
-    (stands_sent k (Gives (value_at start.initial k h)) (record { entry = j; epoch = heard h; content = c }) h f.1 (reverts_wait start n k h f.1 o.1 t.1 e u))
+    (stands_sent k (Gives (value_at start.initial k h)) (record { entry = j; epoch = hears h; content = c }) h f.1 (reverts_wait start n k h f.1 o.1 t.1 e u))
 reverts_wait start n k (Takes d ∷ h) f o t e u =
-    let p : ((d.entry == k) ≡ false) × (took k h ≡ false) = or_parts (d.entry == k) (took k h) u in
+    let p : ((d.entry == k) ≡ false) × (has_taken k h ≡ false) = or_parts (d.entry == k) (has_taken k h) u in
     stands_taken k (Gives (value_at start.initial k h)) d h f.0 (eqb-false d.entry k p.0) (reverts_wait start n k h f.1 o.1 t.1 e p.1)
 reverts_wait start n k (Accepts j w ∷ h) f o t e u =
     let i : fate n h ≡ Reverted k = same_fate n (Accepted j) (Reverted k) h (λ x. cc) e in
@@ -99,13 +99,13 @@ reverts_wait start n k (Changes j w ∷ h) f o t e u =
     subst (λ v. Stands k (Gives v) (bundles_waiting h)) (sym (value_over start.initial k (Changes j w) h o.0 (reverted_past n k h o.1 e))) (reverts_wait start n k h f.1 o.1 t.1 e u)
 reverts_wait start n k (Reverts j w c ∷ h) f o t e u = go (cases_eq j k) (reverts_wait start n k h f.1 o.1 t.1)
   where
-    go : ((j ≡ k) ⊎ (j ≡ k → ⊥)) → (fate n h ≡ Reverted k → took k h ≡ false → Stands k (Gives (value_at start.initial k h)) (bundles_waiting h))
+    go : ((j ≡ k) ⊎ (j ≡ k → ⊥)) → (fate n h ≡ Reverted k → has_taken k h ≡ false → Stands k (Gives (value_at start.initial k h)) (bundles_waiting h))
         → Stands k (Gives (value_at start.initial k h)) (bundles_waiting (Reverts j w c ∷ h))
     go (inl i) before =
         let past : now h ≤ k = omega (arith, o.0) in
-        subst (λ ds. Stands k (Gives (value_at start.initial k h)) ds) (sym (sent_waits (record { entry = j; epoch = heard h + 1; content = c }) h f.1))
-        (stands_last k (Gives (value_at start.initial k h)) (record { entry = j; epoch = heard h + 1; content = c }) (bundles_waiting h) i
+        subst (λ ds. Stands k (Gives (value_at start.initial k h)) ds) (sym (sent_waits (record { entry = j; epoch = hears h + 1; content = c }) h f.1))
+        (stands_last k (Gives (value_at start.initial k h)) (record { entry = j; epoch = hears h + 1; content = c }) (bundles_waiting h) i
         (t.0.back ∙ ap Gives (sym (value_past start.initial k h o.1 past))))
-    go (inr i) before = stands_sent k (Gives (value_at start.initial k h)) (record { entry = j; epoch = heard h + 1; content = c }) h f.1
+    go (inr i) before = stands_sent k (Gives (value_at start.initial k h)) (record { entry = j; epoch = hears h + 1; content = c }) h f.1
         (before (same_fate n (Reverted j) (Reverted k) h (λ x. let same : j ≡ k = cc in i same) e) u)
 reverts_wait start n k (_ ∷ h) f o t e u = reverts_wait start n k h f.1 o.1 t.1 e u

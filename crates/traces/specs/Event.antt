@@ -23,6 +23,8 @@ pub data Event (W B : Type 0) : Type 0 where
   Ignores : (entry : ℕ) (write : W) → Event W B
   -- the parent accepts a change of another's, and sends this process nothing
   Changes : (entry : ℕ) (change : W) → Event W B
+  -- the process does at once, by itself, what a bundle with this content would have it do
+  Does : (own : B) → Event W B
   -- the parent ends the process
   Ends : Event W B
   -- nothing of this process

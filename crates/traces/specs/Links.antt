@@ -10,28 +10,28 @@ writes (Writes w ∷ h) = writes h ++ w ∷ []
 writes (_ ∷ h) = writes h
 
 -- the number of the last own write: the process's epoch
-abbrev pub written : {W B : Type 0} → List (Event W B) → ℕ
-written [] = 0
-written (Writes w ∷ h) = written h + 1
-written (_ ∷ h) = written h
+abbrev pub last_write : {W B : Type 0} → List (Event W B) → ℕ
+last_write [] = 0
+last_write (Writes w ∷ h) = last_write h + 1
+last_write (_ ∷ h) = last_write h
 
 -- how many own writes the parent heard: the number that it recorded
-abbrev pub heard : {W B : Type 0} → List (Event W B) → ℕ
-heard [] = 0
-heard (Accepts k w ∷ h) = heard h + 1
-heard (Reverts k w c ∷ h) = heard h + 1
-heard (Ignores k w ∷ h) = heard h + 1
-heard (_ ∷ h) = heard h
+abbrev pub hears : {W B : Type 0} → List (Event W B) → ℕ
+hears [] = 0
+hears (Accepts k w ∷ h) = hears h + 1
+hears (Reverts k w c ∷ h) = hears h + 1
+hears (Ignores k w ∷ h) = hears h + 1
+hears (_ ∷ h) = hears h
 
 -- the own writes that wait to be heard
 abbrev pub writes_waiting : {W B : Type 0} → List (Event W B) → List W
-writes_waiting h = drop (heard h) (writes h)
+writes_waiting h = drop (hears h) (writes h)
 
 -- the bundles that the parent sent the process, in order
 abbrev pub bundles_sent : {W B : Type 0} → List (Event W B) → List (Bundle B)
 bundles_sent [] = []
-bundles_sent (Sends k u c ∷ h) = bundles_sent h ++ record { entry = k; epoch = heard h; content = c } ∷ []
-bundles_sent (Reverts k w c ∷ h) = bundles_sent h ++ record { entry = k; epoch = heard h + 1; content = c } ∷
+bundles_sent (Sends k u c ∷ h) = bundles_sent h ++ record { entry = k; epoch = hears h; content = c } ∷ []
+bundles_sent (Reverts k w c ∷ h) = bundles_sent h ++ record { entry = k; epoch = hears h + 1; content = c } ∷
     []
 bundles_sent (_ ∷ h) = bundles_sent h
 
@@ -46,11 +46,11 @@ abbrev pub bundles_waiting : {W B : Type 0} → List (Event W B) → List (Bundl
 bundles_waiting h = drop (takes h) (bundles_sent h)
 
 -- the last entry that sent the process a bundle, or 0
-abbrev pub last_sent : {W B : Type 0} → List (Event W B) → ℕ
-last_sent [] = 0
-last_sent (Sends k u c ∷ h) = k
-last_sent (Reverts k w c ∷ h) = k
-last_sent (_ ∷ h) = last_sent h
+abbrev pub last_sending : {W B : Type 0} → List (Event W B) → ℕ
+last_sending [] = 0
+last_sending (Sends k u c ∷ h) = k
+last_sending (Reverts k w c ∷ h) = k
+last_sending (_ ∷ h) = last_sending h
 
 -- the last entry of the parent that the trace tells, or 0
 abbrev pub now : {W B : Type 0} → List (Event W B) → ℕ
@@ -63,7 +63,7 @@ now (Changes k u ∷ h) = k
 now (_ ∷ h) = now h
 
 -- the process was ended
-abbrev pub ended : {W B : Type 0} → List (Event W B) → Bool
-ended [] = false
-ended (Ends ∷ h) = true
-ended (_ ∷ h) = ended h
+abbrev pub is_ended : {W B : Type 0} → List (Event W B) → Bool
+is_ended [] = false
+is_ended (Ends ∷ h) = true
+is_ended (_ ∷ h) = is_ended h

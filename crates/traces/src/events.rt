@@ -1,3 +1,7 @@
+ghost use Rattle.std.specs.Prelude.{◌≡◌};
+ghost use Rattle.traces.specs.Words.{number_after};
+ghost use Rattle.traces.specs.Program.{content_of, stage_after};
+
 /// What a bundle holds for the field.
 #[derive(Clone, Copy, Debug, PartialEq, Eq)]
 pub enum Content {
@@ -6,8 +10,10 @@ pub enum Content {
     Gives(u32),
     /// The context comes, with this value.
     Begins(u32),
-    /// The context goes.
+    /// The context goes for good.
     Removes,
+    /// The process is taken out of the context's group; the context may come back.
+    Leaves,
 }
 
 /// A bundle on its way from the parent to the process.
@@ -31,11 +37,13 @@ pub enum Event {
     Reverts(usize, Option<u32>, Content),
     Ignores(usize, Option<u32>),
     Changes(usize, Option<u32>),
+    /// What the process makes or drops by itself, as a bundle with this content would.
+    Does(Content),
     Ends,
     Rests,
 }
 
-/// Whether the context has not yet come to the process, is held by it, or is gone.
+/// Whether the context has not yet come to the process or may come back, is held by it, or is gone for good.
 #[derive(Clone, Copy, Debug, PartialEq, Eq)]
 pub enum Stage {
     Coming,
@@ -43,9 +51,31 @@ pub enum Stage {
     Gone,
 }
 
+// The stage after a bundle, or after what a process does by itself. What is gone never comes back.
+pub(crate) fn stage_after(content: Content, stage: Stage) -> Stage
+    ensures { result ≡ stage_after content stage }
+{
+    match (content, stage) {
+        (Content::Begins(_), Stage::Coming) => Stage::Held,
+        (Content::Removes, _) => Stage::Gone,
+        (Content::Leaves, Stage::Held) => Stage::Coming,
+        _ => stage,
+    }
+}
+
 /// How a field's trace begins: the parent's value before its first entry, and whether the context is there.
 #[derive(Clone, Copy, Debug, PartialEq, Eq)]
 pub struct Start {
     pub initial: u32,
     pub stage: Stage,
+}
+
+// Of a context that was left no number is kept.
+pub(crate) fn number_after(content: Content, number: usize) -> usize
+    ensures { result ≡ number_after (content_of content) number }
+{
+    match content {
+        Content::Leaves => 0,
+        _ => number,
+    }
 }

@@ -1,6 +1,6 @@
 ghost use Rattle.traces.specs.Laws.{ReplayShowsTheView, PointNeverFalls, ChangesBehindThePointWait};
 ghost use Rattle.traces.specs.Laws.{ProjectionKeepsTheRules, QuietShowsTheParent, RevertTakenShowsTheParent};
-ghost use Rattle.traces.specs.Laws.{RevertsWait};
+ghost use Rattle.traces.specs.Laws.{RevertsWait, StageIsServed};
 ghost use Rattle.traces.specs.Runs.{WorkedRuns};
 
 /// A process shows of a field its newest own write not yet answered, else the parent's value at the point;
@@ -30,18 +30,26 @@ pub fn reverts_wait<V>()
     ensures { RevertsWait V }
 {}
 
+/// Where nothing waits to be taken, a process that wasn't ended has the context in the stage that the parent
+/// serves: held, gone for good, or not there (it had not come, or was left).
+pub fn stage_is_served<V>()
+    ensures { StageIsServed V }
+{}
+
 /// The worked runs keep the rules, and show what they are said to show.
 pub fn worked_runs()
     ensures { WorkedRuns }
 {}
 
-/// A change of others behind the point stands in a waiting bundle, unless a removal of the context waits.
+/// A change of others behind the point stands in a waiting bundle, unless a removal of the context or a leave
+/// waits.
 pub fn changes_behind_the_point_wait<V>()
     ensures { ChangesBehindThePointWait V }
 {}
 
 /// The trace of a field, got from a process's events by looking into contents, keeps the rules of links and
-/// entries where the events do; and what waits on its links is what waits on the process's, looked into.
+/// entries where the events do, if no entry that heard a write changes the field by what it sends; and what
+/// waits on its links is what waits on the process's, looked into.
 pub fn projection_keeps_the_rules<W, B, V>()
     ensures { ProjectionKeepsTheRules W B V }
 {}

@@ -1,10 +1,7 @@
-//! The optimistic view, proved once over what one process sees of a journal. A process that writes at once
-//! and keeps one epoch for a field shows exactly its newest write not yet answered, else the parent's value
-//! at a point that never goes back. Each process, context and field comes to it by one projection. Promised
-//! upward are the definitions in specs/ (events, links, words, rules, replay), the laws over every trace that
-//! keeps the rules, each the clause of a function of `laws`, and plain functions that compute the replay and
-//! the view of one field from its events, for worked runs. Nothing here knows a context, a bundle's parts or
-//! a step, keeps a state between calls, or promises that anything is delivered.
+//! The optimistic view of one process, proved once over what it sees of a journal, as a trace of each
+//! context and field. Promised are laws over every trace that keeps the rules of specs/, each a clause of a
+//! function of `laws`. Nothing here knows a tree, a bundle's parts or a step, or says that anything is
+//! delivered.
 #![tactic(auto)]
 
 mod epochs;
@@ -17,9 +14,22 @@ pub use events::{Bundle, Content, Event, Stage, Start};
 pub use laws::{
     changes_behind_the_point_wait, point_never_falls, projection_keeps_the_rules,
     quiet_shows_the_parent, replay_shows_the_view, revert_taken_shows_the_parent, reverts_wait,
-    worked_runs,
+    stage_is_served, worked_runs,
 };
-pub use looking::{Fate, fate_of_write, took, value_at, view};
+pub use looking::{Fate, fate_of_write, has_taken, value_at, view};
 
 #[cfg(test)]
 mod tests;
+
+fn crosses<T: Send + Sync>() {}
+
+// The types of this crate may go to another thread, and be shared.
+fn types_cross() {
+    crosses::<Content>();
+    crosses::<Bundle>();
+    crosses::<Event>();
+    crosses::<Stage>();
+    crosses::<Start>();
+    crosses::<Epochs>();
+    crosses::<Fate>();
+}

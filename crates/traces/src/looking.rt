@@ -1,10 +1,10 @@
 ghost use Rattle.std.specs.Prelude.{◌≡◌, ◌<◌};
-ghost use Rattle.traces.specs.Words.{fate, took, value_at, view};
-ghost use Rattle.traces.specs.Program.{start_of, stage_of, stage_after, trace_of, fate_of, found_after_event};
-ghost use Rattle.traces.specs.Program.{found_after};
-ghost use Rattle.traces.specs.Program.{heard_as, judged, is_taken, changed_until, valued, answers, viewed};
+ghost use Rattle.traces.specs.Words.{fate, has_taken, value_at, view};
+ghost use Rattle.traces.specs.Program.{start_of, stage_of, trace_of, fate_of, found_after_event};
+ghost use Rattle.traces.specs.Program.{found_after, judged_after_hear, judged_after_event, is_taken};
+ghost use Rattle.traces.specs.Program.{value_until, value_after_event, answers, view_shown};
 
-use crate::events::{Bundle, Content, Event, Stage, Start};
+use crate::events::{Bundle, Content, Event, Stage, Start, number_after, stage_after};
 
 /// What became of an own write, with the number of the entry that judged it.
 #[derive(Clone, Copy)]
@@ -18,7 +18,7 @@ pub enum Fate {
 // What one look over the events finds.
 #[derive(Clone, Copy)]
 struct Found {
-    written: usize,
+    last_write: usize,
     newest: usize,
     own_value: u32,
     base: usize,
@@ -29,46 +29,41 @@ struct Found {
 // How many own writes were heard, and what became of the one that is asked for.
 #[derive(Clone, Copy)]
 struct Judged {
-    heard: usize,
+    hears: usize,
     fate: Fate,
 }
 
-fn stage_after(content: Content, stage: Stage) -> Stage
-    ensures { result ≡ stage_after content stage }
-{
-    match content {
-        Content::Begins(_) => Stage::Held,
-        Content::Removes => Stage::Gone,
-        _ => stage,
-    }
-}
-
 fn wrote(found: Found, value: u32) -> Found
-    requires { found.written < usize.MAX }
+    requires { found.last_write < usize.MAX }
     ensures { result ≡ found_after_event (Event.Writes (Some value)) found }
 {
-    let written = found.written + 1;
+    let last_write = found.last_write + 1;
     Found {
-        written,
-        newest: written,
+        last_write,
+        newest: last_write,
         own_value: value,
         ..found
     }
 }
 
 fn tell(found: Found, event: Event) -> Found
-    requires { found.written < usize.MAX }
+    requires { found.last_write < usize.MAX }
     ensures { result ≡ found_after_event event found }
 {
     match event {
         Event::Writes(None) => Found {
-            written: found.written + 1,
+            last_write: found.last_write + 1,
             ..found
         },
         Event::Writes(Some(value)) => wrote(found, value),
         Event::Takes(bundle) => Found {
+            newest: number_after(bundle.content, found.newest),
             base: bundle.entry,
             stage: stage_after(bundle.content, found.stage),
+            ..found
+        },
+        Event::Does(content) => Found {
+            stage: stage_after(content, found.stage),
             ..found
         },
         Event::Accepts(entry, Some(_)) => Found {
@@ -83,7 +78,7 @@ fn find(start: Start, events: &[Event]) -> Found
     ensures { result ≡ found_after start (trace_of events.now) }
 {
     let mut found = Found {
-        written: 0,
+        last_write: 0,
         newest: 0,
         own_value: start.initial,
         base: 0,
@@ -97,17 +92,17 @@ fn find(start: Start, events: &[Event]) -> Found
 }
 
 fn hear(before: Judged, number: usize, made: Fate) -> Judged
-    requires { before.heard < usize.MAX }
-    ensures { result ≡ heard_as number made before }
+    requires { before.hears < usize.MAX }
+    ensures { result ≡ judged_after_hear number made before }
 {
-    let heard = before.heard + 1;
-    let fate = if number == heard { made } else { before.fate };
-    Judged { heard, fate }
+    let hears = before.hears + 1;
+    let fate = if number == hears { made } else { before.fate };
+    Judged { hears, fate }
 }
 
 fn judge(before: Judged, number: usize, event: Event) -> Judged
-    requires { before.heard < usize.MAX }
-    ensures { result ≡ judged number event before }
+    requires { before.hears < usize.MAX }
+    ensures { result ≡ judged_after_event number event before }
 {
     match event {
         Event::Accepts(entry, _) => hear(before, number, Fate::Accepted(entry)),
@@ -122,7 +117,7 @@ pub fn fate_of_write(number: usize, events: &[Event]) -> Fate
     ensures { fate_of result ≡ fate number (trace_of events.now) }
 {
     let mut judged = Judged {
-        heard: 0,
+        hears: 0,
         fate: Fate::Unheard,
     };
     for event in events {
@@ -141,8 +136,8 @@ fn is_take_of(entry: usize, event: Event) -> bool
 }
 
 /// Whether the process took the bundle that this entry sent.
-pub fn took(entry: usize, events: &[Event]) -> bool
-    ensures { result ≡ took entry (trace_of events.now) }
+pub fn has_taken(entry: usize, events: &[Event]) -> bool
+    ensures { result ≡ has_taken entry (trace_of events.now) }
 {
     let mut found = false;
     for event in events {
@@ -152,7 +147,7 @@ pub fn took(entry: usize, events: &[Event]) -> bool
 }
 
 fn change_until(entry: usize, at: usize, change: Option<u32>, before: u32) -> u32
-    ensures { result ≡ changed_until entry at change before }
+    ensures { result ≡ value_until entry at change before }
 {
     if entry < at {
         before
@@ -162,7 +157,7 @@ fn change_until(entry: usize, at: usize, change: Option<u32>, before: u32) -> u3
 }
 
 fn value_after(entry: usize, event: Event, before: u32) -> u32
-    ensures { result ≡ valued entry event before }
+    ensures { result ≡ value_after_event entry event before }
 {
     match event {
         Event::Sends(at, change, _) => change_until(entry, at, change, before),
@@ -191,7 +186,7 @@ fn is_answer(fate: Fate, stage: Stage, events: &[Event]) -> bool
     match fate {
         Fate::Unheard => false,
         Fate::Accepted(_) => true,
-        Fate::Reverted(entry) => took(entry, events),
+        Fate::Reverted(entry) => has_taken(entry, events),
         Fate::Ignored(_) => matches!(stage, Stage::Gone),
     }
 }
@@ -213,7 +208,7 @@ fn seen(start: Start, found: Found, events: &[Event]) -> u32
 /// What a process is to show of a field after these events, the oldest first: its newest own write where that
 /// isn't answered, else the parent's value at the point. None where it doesn't hold the context.
 pub fn view(start: Start, events: &[Event]) -> Option<u32>
-    ensures { result ≡ viewed (start_of start) (trace_of events.now) }
+    ensures { result ≡ view_shown (start_of start) (trace_of events.now) }
 {
     let found = find(start, events);
     match found.stage {

@@ -110,7 +110,7 @@ fn reverts(rt: HostRuntime) {
     assert!(rt; shows(HELD, &again[..6], Some(2)), "written again");
     assert!(rt; shows(HELD, &again, Some(0)), "reverted again");
     assert!(rt; matches!(fate_of_write(1, &again), Fate::Reverted(3)));
-    assert!(rt; took(7, &again));
+    assert!(rt; has_taken(7, &again));
 }
 
 #[test]
@@ -143,4 +143,43 @@ fn a_late_subscriber_and_a_removal(rt: HostRuntime) {
     ];
     assert!(rt; shows(HELD, &removed[..3], Some(1)), "an ignored write");
     assert!(rt; shows(HELD, &removed, None), "a context that is gone");
+}
+
+#[test]
+fn what_a_process_does_by_itself(rt: HostRuntime) {
+    let made = [
+        Event::Does(Content::Begins(0)),
+        Event::Writes(Some(2)),
+        Event::Changes(1, None),
+        Event::Accepts(2, Some(2)),
+    ];
+    assert!(rt; shows(LATE, &made[..1], Some(0)), "a frame as it was made");
+    assert!(rt; shows(LATE, &made, Some(2)), "a frame that was heard");
+    let dropped = [
+        Event::Changes(1, Some(1)),
+        Event::Sends(2, None, Content::Begins(1)),
+        Event::Does(Content::Removes),
+        takes(2, 0, Content::Begins(1)),
+    ];
+    assert!(rt; shows(LATE, &dropped, None), "a coming that is passed over");
+}
+
+#[test]
+fn a_leave_and_a_coming_back(rt: HostRuntime) {
+    let back = [
+        Event::Writes(Some(1)),
+        Event::Sends(1, None, Content::Leaves),
+        Event::Sends(2, None, Content::Begins(0)),
+        Event::Sends(3, Some(5), Content::Gives(5)),
+        takes(1, 0, Content::Leaves),
+        takes(2, 0, Content::Begins(0)),
+        takes(3, 0, Content::Gives(5)),
+        Event::Ignores(4, Some(1)),
+    ];
+    assert!(rt; shows(HELD, &back[..5], None), "a context that was left");
+    assert!(rt;
+        shows(HELD, &back[..6], Some(0)),
+        "a context that came back"
+    );
+    assert!(rt; shows(HELD, &back, Some(5)), "a change since it came back");
 }

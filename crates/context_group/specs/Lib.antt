@@ -1,0 +1,4 @@
+pub mod Sets
+pub mod Acks
+pub mod Groups
+pub mod Laws

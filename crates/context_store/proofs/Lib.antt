@@ -1,0 +1,6 @@
+pub mod Contexts
+pub mod Entries
+pub mod Joining
+pub mod Masks
+pub mod Records
+pub mod Runs

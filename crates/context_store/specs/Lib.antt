@@ -1,0 +1,4 @@
+pub mod Content
+pub mod Marked
+pub mod Joined
+pub mod Ops

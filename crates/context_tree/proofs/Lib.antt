@@ -1,0 +1,10 @@
+pub mod Ancestors
+pub mod Changes
+pub mod Distinct
+pub mod Kept
+pub mod Lists
+pub mod Parts
+pub mod Runs
+pub mod Same
+pub mod Spans
+pub mod Tops

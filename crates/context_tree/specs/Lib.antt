@@ -1,0 +1,4 @@
+pub mod Laws
+pub mod Node
+pub mod Places
+pub mod Tree

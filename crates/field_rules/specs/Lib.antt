@@ -1,0 +1,4 @@
+pub mod Bounds
+pub mod Rules
+pub mod RuleBounds
+pub mod WorkedRows

@@ -1,0 +1,13 @@
+pub mod Questions
+pub mod Sayings
+pub mod Fold
+pub mod Order
+pub mod Hear
+pub mod Bundle
+pub mod ParentActs
+pub mod FactsAfter
+pub mod Seen
+pub mod Take
+pub mod OwnActs
+pub mod SeenAfter
+pub mod Rows

@@ -1,4 +1,4 @@
-.PHONY: play test examples rows refuse-memory measure
+.PHONY: play test examples rows refuse-memory measure costs
 
 # Proves the player, builds it, and plays its stored scenario.
 play:
@@ -31,3 +31,7 @@ rows:
 # Processor time and memory of the player that `make play` built, as docs/ARCHITECTURE.md tells them.
 measure:
 	tools/measure.py crates/fission_play/out/fission_play
+
+# Processor time and memory of trees and stores, as docs/ARCHITECTURE.md tells them.
+costs:
+	tools/costs.py

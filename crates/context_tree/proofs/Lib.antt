@@ -1,6 +1,7 @@
 pub mod Ancestors
 pub mod Changes
 pub mod Distinct
+pub mod Ends
 pub mod Kept
 pub mod Lists
 pub mod Parts

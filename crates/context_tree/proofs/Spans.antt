@@ -132,7 +132,7 @@ is_unknown x ns t h =
     }
 
 -- equal pairs have equal parts
-pair_parts : (a b c d : ℕ) → ◌≡◌ {A = Option (ℕ × ℕ)} (Some (a, c)) (Some (b, d)) → (a ≡ b) × (c ≡ d)
+pub pair_parts : (a b c d : ℕ) → ◌≡◌ {A = Option (ℕ × ℕ)} (Some (a, c)) (Some (b, d)) → (a ≡ b) × (c ≡ d)
 pair_parts a b c d h =
     let p : Option (ℕ × ℕ) → ℕ × ℕ = λ o. unwrap_or o (a, c) in (ap (λ o. (p o).0) h, ap (λ o. (p o).1) h)
 

@@ -1,10 +1,11 @@
-ghost use Rattle.std.specs.Prelude.{◌≡◌, ◌==◌, ◌&&◌, ◌+◌, ◌<◌, ◌≤◌, [], length, map, drop, filter, zip};
-ghost use Rattle.std.specs.Prelude.{insert, slice_range, nat_lt, None, true, false};
+ghost use Rattle.std.specs.Prelude.{◌≡◌, ◌==◌, ◌&&◌, ◌||◌, ◌+◌, ◌-◌, ◌<◌, ◌≤◌, [], length, map, drop};
+ghost use Rattle.std.specs.Prelude.{filter, zip, insert, slice_get, slice_range, nat_lt, None, true, false};
 ghost use Rattle.std.specs.Prelude.{IfOk, OnOk, OnErr, IsOkUnless, MatchOption};
 ghost use Rattle.std.specs.List.{prefix_len, position_or_len, remove_range};
-ghost use Rattle.std.specs.Option.{option_map};
+ghost use Rattle.std.specs.Option.{option_map, option_map_or};
 ghost use Rattle.indexmap.specs.IndexMap.{get};
 ghost use Rattle.fission_ids.specs.Ids.{same_context};
+ghost use Rattle.context_tree.specs.Node.{is_at, is_child};
 ghost use Rattle.context_tree.specs.Tree.{IsTree, contexts, is_held, parent_in, top_in, is_under, subtree};
 ghost use Rattle.context_tree.specs.Tree.{without, children, refusal, nodes_after, subtree_if_held};
 ghost use Rattle.context_tree.specs.Tree.{is_missing, node_of, is_less, place_in, line_above};
@@ -209,14 +210,30 @@ impl Tree {
         Some((index, place.depth))
     }
 
-    // The run of a context. None exactly where it isn't held.
+    // The run of a context: to the end where the last context is this one or directly in it, and else before
+    // the next that isn't deeper. None exactly where it isn't held.
     fn run_of(&self, id: ContextId) -> Option<Run>
         ensures { MatchOption result (IsUnknown id self.now) (IsRun id self.now) }
     {
         self.stands_as_a_tree();
         let (start, depth) = self.index_and_depth(id)?;
+        if self.ends_in(id) {
+            let end = self.len();
+            return Some(Run { start, end, depth });
+        }
         let end = end_of_run(self.standing(), start, depth);
         Some(Run { start, end, depth })
+    }
+
+    // Whether the last context is this one, or directly in it.
+    fn ends_in(&self, id: ContextId) -> bool
+        ensures { result ≡ option_map_or (λ n. is_at id n || is_child id n)
+            (slice_get self.now (length self.now - 1)) false }
+    {
+        let Some((last, place)) = self.places.last() else {
+            return false;
+        };
+        id == *last || Some(id) == place.parent
     }
 
     // Where a context goes, and how many are above it there. None exactly where the parent is missing.

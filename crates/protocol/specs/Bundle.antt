@@ -1,12 +1,13 @@
 -- What a whole bundle comes to in the parent. As in `Fold`, it is told over anything that is kept.
 use Rattle.std.specs.Prelude.{ℕ, ◌+◌, ◌==◌, nat_lt, Bool, true, false, not, if◌then◌else◌}
-use Rattle.std.specs.Prelude.{zero, suc, List, [], ◌∷◌, Option, Some, is_some, ◌&&◌}
+use Rattle.std.specs.Prelude.{zero, suc, List, [], ◌∷◌, Option, None, Some, is_some, ◌&&◌}
 use Rattle.std.specs.List.{list_any}
 use Rattle.std.specs.Option.{option_map, option_map_or}
 use Rattle.field_table.specs.declared.field.Field.{Field}
 use Rattle.wire_msgs.specs.declared.answer.Answer.{Answer}
 use Rattle.wire_msgs.specs.declared.answer.Answer.TheVariants as answers
 use Rattle.wire_msgs.specs.declared.bundle.UpBundle.{UpBundle}
+use Rattle.wire_msgs.specs.declared.bundle.DownBundle.{DownBundle}
 use Rattle.wire_msgs.specs.declared.cause.EndCause.{EndCause}
 use Rattle.wire_msgs.specs.declared.cause.EndCause.TheVariants.{BadEpoch, BadStamp, BadPart, Failed}
 use Rattle.wire_msgs.specs.declared.part.UpPart.{UpPart}
@@ -97,3 +98,9 @@ module _ {Kept : Type 0} (facts : Kept → Facts) (next : Saying → Kept → Ke
       (or_later (envelope_fault (facts s) p b)
       (first_fault (hear_rules says_yes p p) facts next 1 counted b.parts))
       (parts_ruling n says_yes p b counted)
+
+-- the bundle of a process that has these parts, if it has any, by the parent's answers behind the step
+abbrev pub bundle_for : Facts → ℕ → List DownPart → Option DownBundle
+bundle_for f q [] = None
+bundle_for f q (d ∷ ds) =
+    Some (record { epoch = record { 0 = f.processes.commits_heard q }; parts = d ∷ ds })

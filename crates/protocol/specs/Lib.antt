@@ -10,4 +10,6 @@ pub mod Seen
 pub mod Take
 pub mod OwnActs
 pub mod SeenAfter
+pub mod Start
+pub mod Free
 pub mod Rows

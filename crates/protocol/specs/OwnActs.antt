@@ -1,6 +1,7 @@
 -- What a process does of its own accord: why it is refused, what it comes to, and what it sends.
 use Rattle.std.specs.Prelude.{ℕ, ◌+◌, ◌==◌, false, not, List, [], ◌∷◌}
 use Rattle.std.specs.Prelude.{filter, Option, None, Some, is_none, unwrap_or}
+use Rattle.std.specs.Option.{option_map_or}
 use Rattle.fission_ids.specs.declared.context.ContextId.{ContextId}
 use Rattle.field_table.specs.declared.field.Field.{Field}
 use Rattle.field_table.specs.declared.value.Value.{Value}
@@ -20,6 +21,8 @@ use Rattle.protocol.specs.Seen.{Seen, Doing}
 use Rattle.protocol.specs.Seen.Doing.{Framed, Went, Wrote}
 use Rattle.protocol.specs.Questions.{option_any}
 use Rattle.protocol.specs.Hear.{modified_fields}
+use Rattle.protocol.specs.Fold.{behind_all}
+use Rattle.protocol.specs.Take.{Step}
 use Rattle.protocol.specs.ParentActs.{refused_if, denial_refused}
 
 -- what is asked of a process's own write of a field
@@ -78,3 +81,17 @@ posts p s (actions.Set x t) = ups.Commit x t ∷ []
 posts p s (actions.Frame x) = ups.Create (next_frame p s) x ∷ []
 posts p s (actions.Drop x) = ups.Drop x ∷ []
 posts p s _ = []
+
+-- ---- a whole action
+
+module _ {Kept : Type 0} (seen : Kept → Seen) (next : Doing → Kept → Kept) where
+  -- an action of process p; a refused one changes and sends nothing
+  abbrev pub action_step : ℕ → Action → Kept → Step Kept
+  action_step p action s =
+      option_map_or (λ why. record { answer = answers.Refused why; kept = s; sends = [] })
+      (refusal p (seen s) action)
+      (record {
+        answer = answer p (seen s) action;
+        kept = behind_all next (says p (seen s) action) s;
+        sends = posts p (seen s) action;
+      })

@@ -1,6 +1,7 @@
 -- What the parent does of its own accord: why it is refused, what it comes to, and what it sends.
 use Rattle.std.specs.Prelude.{ℕ, ◌+◌, ◌==◌, ◌&&◌, Bool, false, not, if◌then◌else◌, List, [], ◌∷◌, map, filter}
 use Rattle.std.specs.Prelude.{Option, None, Some, is_none, is_some, unwrap_or}
+use Rattle.std.specs.Option.{option_map_or}
 use Rattle.fission_ids.specs.declared.context.ContextId.{ContextId}
 use Rattle.fission_ids.specs.declared.group.GroupId.{GroupId}
 use Rattle.field_table.specs.declared.value.Value.{Value}
@@ -22,6 +23,9 @@ use Rattle.wire_msgs.specs.declared.refusal.Counted.TheVariants as counted
 use Rattle.field_rules.specs.Rules.{Question, is_denied}
 use Rattle.protocol.specs.Questions.{Facts, option_any, is_subscribed, is_told, is_owner}
 use Rattle.protocol.specs.Hear.{modified_fields, set_of_fields}
+use Rattle.protocol.specs.Fold.{behind_all}
+use Rattle.protocol.specs.Order.{in_order}
+use Rattle.protocol.specs.Bundle.{Ruling, ruling}
 use Rattle.protocol.specs.Sayings.{Saying}
 use Rattle.protocol.specs.Sayings.Saying.{Opened, Removed, Wrote, Subscribed, Ended}
 
@@ -126,3 +130,19 @@ posts f behind (actions.Subscribe p g) q =
 posts f behind (actions.Discard x) q = if is_told f q x then downs.Discard x ∷ [] else []
 posts f behind (actions.Kill p) q = if q == p.0 then downs.Kill ∷ [] else []
 posts f behind _ q = []
+
+-- ---- a whole action
+
+module _ {Kept : Type 0} (facts : Kept → Facts) (next : Saying → Kept → Kept) where
+  -- an action that isn't refused, where there are n processes
+  abbrev pub done_ruling : ℕ → ParentAction → Kept → Ruling Kept
+  done_ruling n action s =
+      let behind = behind_all next (says (facts s) action) s in
+      ruling facts next n (answer (facts s) action) (λ q. in_order (posts (facts s) (facts behind) action q))
+      behind
+
+  -- an action; a refused one changes and sends nothing
+  abbrev pub action_ruling : ℕ → ParentAction → Kept → Ruling Kept
+  action_ruling n action s =
+      option_map_or (λ why. ruling facts next n (answers.Refused why) (λ q. []) s) (refusal (facts s) action)
+      (done_ruling n action s)

@@ -8,6 +8,7 @@ use Rattle.transaction.specs.Transaction.{Changes}
 use Rattle.wire_msgs.specs.declared.answer.Answer.{Answer}
 use Rattle.wire_msgs.specs.declared.answer.Answer.TheVariants as answers
 use Rattle.wire_msgs.specs.declared.bundle.DownBundle.{DownBundle}
+use Rattle.wire_msgs.specs.declared.bundle.UpBundle.{UpBundle}
 use Rattle.wire_msgs.specs.declared.part.Known.{Known}
 use Rattle.wire_msgs.specs.declared.part.UpPart.{UpPart}
 use Rattle.wire_msgs.specs.declared.part.UpPart.TheVariants as ups
@@ -105,3 +106,9 @@ module _ {Kept : Type 0} (seen : Kept → Seen) (next : Doing → Kept → Kept)
         if list_any is_kill b.parts then []
         else posts_of (take_rules p b.epoch.0) seen next s b.parts;
   }
+
+-- the bundle that process p sends, if it sends any parts, by its answers behind the step
+abbrev pub bundle_sent : Seen → List UpPart → Option UpBundle
+bundle_sent s [] = None
+bundle_sent s (a ∷ parts) =
+    Some (record { epoch = record { 0 = s.commits }; seen = s.taken; parts = a ∷ parts })

@@ -1,22 +1,31 @@
 use fission_ids::{Duplicate, OutOfMemory, ProcId};
-use wire_msgs::{Answer, ParentAction};
+use wire_msgs::{Action, Answer, ParentAction};
 
 /// One event of one actor.
 #[derive(Debug, Drop)]
 pub enum Step {
-    /// The parent acts.
-    ParentAct { action: ParentAction },
+    /// Process p acts.
+    Act { p: ProcId, action: Action },
     /// Process p takes the first bundle that waits for it.
     Take { p: ProcId },
+    /// The parent acts.
+    ParentAct { action: ParentAction },
+    /// The parent hears the first bundle that waits from process p.
+    Hear { p: ProcId },
 }
 
 impl Duplicate for Step {
     fn copy(&self) -> Result<Step, OutOfMemory> {
         match self {
-            Step::ParentAct { action } => Ok(Step::ParentAct {
+            Step::Act { p, action } => Ok(Step::Act {
+                p: *p,
                 action: action.copy()?,
             }),
             Step::Take { p } => Ok(Step::Take { p: *p }),
+            Step::ParentAct { action } => Ok(Step::ParentAct {
+                action: action.copy()?,
+            }),
+            Step::Hear { p } => Ok(Step::Hear { p: *p }),
         }
     }
 }

@@ -20,7 +20,7 @@ fn entries_stand_in_order(rt: HostRuntime) -> Result<(), Fail> {
     for entry in journal.entries() {
         match &entry.step {
             Step::Take { p } => takers.push(p.0)?,
-            Step::ParentAct { .. } => {}
+            _ => {}
         }
     }
     assert_eq!(rt; takers.as_slice(), [0, 1, 2].as_slice());

@@ -1,0 +1,21 @@
+use Rattle.std.proofs.Common.{◌≡◌, ◌&&◌, false, [], ◌∷◌, length, sym, ap, ◌∙◌}
+use Rattle.wire_msgs.specs.declared.answer.Answer.TheVariants.{Parts}
+use Rattle.wire_msgs.specs.declared.note.PartNote.TheVariants.{CommitIgnored}
+use Rattle.protocol.specs.Questions.{is_told, is_judged}
+use Rattle.parent_core.specs.Parent.{facts_of}
+use Rattle.parent_core.specs.Ruled.{RuledBy}
+use Rattle.parent_core.specs.Hearing.{commit_ruling}
+use Rattle.parent_core.specs.declared.ruled.Ruled.{Ruled}
+use Rattle.parent_core.proofs.Kept.{ok_map}
+use Rattle.parent_core.proofs.Rulings.{ruled_ignored, ruled_unjudged}
+use Rattle.parent_core.proofs.parent.Parent.judge_live.Goals as goal
+
+pub returns-else-has : goal.returns-else-has
+returns-else-has c =
+    let unjudged : is_judged (facts_of c.args.self) c.args.p.0 c.args.x ≡ false = ap (λ b. b && is_told (facts_of c.args.self) c.args.p.0 c.args.x) c.requires.live ∙ sym (c.requires.all c.args.p.0) ∙ sym c.has.ensures ∙ c.if-has.false in
+    ok_map
+    (λ (r : Ruled). r ≡ record { core = c.args.self; answer = Parts (CommitIgnored c.args.x ∷ []); sent = [] })
+    (RuledBy c.args.self (commit_ruling (length c.args.self.config.types) c.args.p.0 c.args.x c.args.t (facts_of c.args.self)))
+    c.ignore.result
+    (λ r h. ruled_unjudged c.args.self c.args.p.0 c.args.x c.args.t r unjudged (ruled_ignored c.args.self c.args.x r h))
+    c.ignore.ensures

@@ -1,0 +1,7 @@
+pub mod Parent
+pub mod Ruled
+pub mod Codes
+pub mod Sending
+pub mod Writes
+pub mod Hearing
+pub mod Contents

@@ -1,0 +1,363 @@
+ghost use Rattle.std.specs.Prelude.{◌≡◌, ℕ, ◌<◌, ◌≤◌, ◌+◌, ◌-◌, ◌^◌, ◌∷◌, [], ◌==◌, ◌&&◌, not, length};
+ghost use Rattle.std.specs.Prelude.{is_some, IfOk, OnOk, MatchOption, true, false};
+ghost use Rattle.std.specs.List.{list_any};
+ghost use Rattle.std.specs.Option.{option_copied, option_map};
+ghost use Rattle.fission_ids.specs.ProcSet.{has};
+ghost use Rattle.wire_msgs.specs.Config.{ConfigFits};
+ghost use Rattle.wire_msgs.specs.declared.action.ParentAction.TheVariants as actions;
+ghost use Rattle.wire_msgs.specs.declared.part.DownPart.TheVariants as downs;
+ghost use Rattle.protocol.specs.Questions.{is_told};
+ghost use Rattle.protocol.specs.Sayings.Saying.{Counted, Wrote};
+ghost use Rattle.protocol.specs.Start.{facts_at_start, is_live, numbers};
+ghost use Rattle.protocol.specs.FactsAfter.{facts_after};
+ghost use Rattle.protocol.specs.ParentActs.{action_ruling};
+ghost use Rattle.protocol.specs.Bundle.{after_sending, bundle_ruling, ruling};
+ghost use Rattle.parent_core.specs.Parent.{facts_of, IsPlayed};
+ghost use Rattle.parent_core.specs.Ruled.{RuledBy, Counts, IsHonest};
+ghost use Rattle.parent_core.specs.Sending.{bundles_to, part_to};
+ghost use Rattle.parent_core.specs.Hearing.{allowed_ruling, commit_ruling};
+ghost use Rattle.wire_msgs.specs.declared.note.PartNote.TheVariants as notes;
+
+use crate::contents::commit_to;
+use crate::process::{Process, count_sent, record_epoch};
+use crate::ruled::Ruled;
+use crate::sending::bundles;
+use crate::starting::{contexts_of, start_processes};
+use crate::tabs::tab_of;
+use crate::writes::{allowed_answer, commit_in, denial, is_empty};
+use context_store::{SlabStore, Store};
+use field_table::{Field, Value};
+use fission_ids::{ContextId, Duplicate, Epoch, GroupId, Kept, OutOfMemory, ProcId, ProcSet, Seq};
+use std::alloc::Global;
+use std::marker::Model;
+use transaction::Transaction;
+use wire_msgs::{Answer, Config, DownBundle, DownPart, ParentAction, PartNote, Refusal, UpBundle};
+
+/// The parent, seen as what it keeps: its configuration, the live contexts with their fields, and the counts
+/// of each process.
+#[derive(Debug, Drop)]
+pub struct Parent {
+    alloc: Global,
+    config: Config,
+    contexts: SlabStore,
+    // By the numbers of the processes.
+    processes: Vec<Process>,
+}
+
+impl Model for Parent {
+    ghost use Rattle.parent_core.specs.Parent.{Kept, HoldsAll};
+    ghost use Rattle.parent_core.specs.Codes.{kept_code};
+
+    ghost Value = { Kept };
+
+    ghost coded = { kept_code };
+
+    ghost view = { λ p. record {
+      config = p.config;
+      contexts = p.contexts;
+      processes = p.processes.items;
+    } };
+
+    ghost invariant = { λ p. HoldsAll (record {
+      config = p.config;
+      contexts = p.contexts;
+      processes = p.processes.items;
+    }) };
+}
+
+impl Parent {
+    /// The parent before any step.
+    pub fn start(alloc: Global, config: &Config) -> Result<Parent, OutOfMemory>
+        requires { ConfigFits config.now }
+        ensures config { IfOk result (λ t. t.config ≡ config.now) }
+        ensures facts { IfOk result (λ t. facts_of t ≡ facts_at_start config.now.tabs) }
+    {
+        let config = config.copy()?;
+        let contexts = contexts_of(alloc, config.tabs.as_slice())?;
+        let processes = start_processes(alloc, config.types.len())?;
+        Ok(Parent {
+            alloc,
+            config,
+            contexts,
+            processes,
+        })
+    }
+
+    /// How the run began.
+    pub fn config(&self) -> &Config
+        ensures { result.now ≡ self.now.config }
+    {
+        &self.config
+    }
+
+    /// It counts what was heard of each process and sent to it, and of nobody else.
+    pub fn counts_each_process(&self)
+        ensures { length self.now.processes ≡ length self.now.config.types }
+    {
+        let _ = &self.processes;
+    }
+
+    /// The parent acts of its own accord.
+    pub fn act(self, action: ParentAction) -> Result<Ruled, OutOfMemory>
+        requires action { IsPlayed action }
+        requires counts { Counts self }
+        ensures { IfOk result (λ r. RuledBy self
+            (action_ruling (λ f. f) facts_after (length self.config.types) action (facts_of self)) r) }
+    {
+        match action {
+            ParentAction::Set { context, fields } => self.set(context, fields.into_inner()),
+            _ => unreachable!(),
+        }
+    }
+
+    /// The parent hears a bundle of process p.
+    pub fn hear(self, p: ProcId, bundle: UpBundle) -> Result<Ruled, OutOfMemory>
+        requires process { p.0 < length self.config.types }
+        requires honest { IsHonest (facts_of self) p.0 bundle }
+        requires counts { Counts self }
+        ensures { IfOk result (λ r. RuledBy self
+            (bundle_ruling (λ f. f) facts_after (length self.config.types) (λ fld. false) p.0 bundle
+            (facts_of self)) r) }
+    {
+        let UpBundle { epoch, parts, .. } = bundle;
+        let (context, change) = commit_in(parts);
+        change.covers_each_field();
+        let mut core = self;
+        core.record(p, epoch);
+        core.judge(p, context, change)
+    }
+
+    /// What the parent shows of a field. None exactly where the context isn't live.
+    pub fn field(&self, x: ContextId, f: Field) -> Option<&Value>
+        ensures { option_copied result ≡ (facts_of self.now).contexts.value x f }
+    {
+        match self.contexts.get(x) {
+            None => None,
+            Some(fields) => Some(fields.get(f)),
+        }
+    }
+
+    /// The process that owns a context. None where nobody does, or the context isn't live.
+    pub fn owner(&self, x: ContextId) -> Option<ProcId>
+        ensures { option_map (λ p. p.0) result ≡ (facts_of self.now).contexts.owner x }
+    {
+        tab_of(self.config.tabs.as_slice(), x).map(|tab| tab.owner)
+    }
+
+    /// The group of a context. None exactly where the context isn't live.
+    pub fn group(&self, x: ContextId) -> Option<GroupId>
+        ensures { result ≡ (facts_of self.now).contexts.group x }
+    {
+        tab_of(self.config.tabs.as_slice(), x).map(|_| GroupId(x.serial))
+    }
+
+    // The allocator.
+    fn alloc(&self) -> Global {
+        self.alloc
+    }
+
+    // There are at most sixteen processes.
+    fn has_few_processes(&self)
+        ensures { length self.now.config.types ≤ 16 }
+    {
+        let _ = &self.config;
+    }
+
+    // The processes that are told of a context. None exactly where it isn't live.
+    fn subscribers(&self, x: ContextId) -> Option<ProcSet>
+        ensures { MatchOption result (is_live self.now.config.tabs x ≡ false) (λ s.
+            (is_live self.now.config.tabs x ≡ true) × ((q : ℕ) → has s q ≡ is_told (facts_of self.now) q x)) }
+    {
+        match tab_of(self.config.tabs.as_slice(), x) {
+            None => None,
+            Some(tab) => Some(tab.also.with(tab.owner)),
+        }
+    }
+
+    // The parent writes fields of a context, unless that is refused.
+    fn set(self, x: ContextId, t: Transaction) -> Result<Ruled, OutOfMemory>
+        requires { Counts self }
+        ensures { IfOk result (λ r. RuledBy self
+            (action_ruling (λ f. f) facts_after (length self.config.types) (actions.Set x t)
+            (facts_of self)) r) }
+    {
+        match self.subscribers(x) {
+            None => Ok(self.refuse(Refusal::NoContext)),
+            Some(to) => self.set_live(x, t, to),
+        }
+    }
+
+    // The parent writes fields of a live context, unless fixed facts deny it.
+    fn set_live(self, x: ContextId, t: Transaction, to: ProcSet) -> Result<Ruled, OutOfMemory>
+        requires counts { Counts self }
+        requires live { is_live self.config.tabs x ≡ true }
+        requires to { (q : ℕ) → has to q ≡ is_told (facts_of self) q x }
+        ensures { IfOk result (λ r. RuledBy self
+            (action_ruling (λ f. f) facts_after (length self.config.types) (actions.Set x t)
+            (facts_of self)) r) }
+    {
+        match denial(x, &t) {
+            Some(why) => Ok(self.refuse(why)),
+            None => self.write(x, t, to, Answer::Done),
+        }
+    }
+
+    // An action is refused.
+    fn refuse(self, why: Refusal) -> Ruled
+        ensures { result ≡ record { core = self; answer = Answer.Refused why; sent = [] } }
+    {
+        let sent = Seq::new(self.alloc());
+        Ruled {
+            core: self,
+            answer: Answer::Refused(why),
+            sent,
+        }
+    }
+
+    // A commit of process p is done where it is judged, else ignored.
+    fn judge(self, p: ProcId, x: ContextId, t: Transaction) -> Result<Ruled, OutOfMemory>
+        requires process { p.0 < length self.config.types }
+        requires counts { (q : ℕ) → (facts_of self).processes.bundles_sent q < 2 ^ 64 - 1 }
+        ensures { IfOk result (λ r. RuledBy self
+            (commit_ruling (length self.config.types) p.0 x t (facts_of self)) r) }
+    {
+        match self.subscribers(x) {
+            None => self.ignore(x),
+            Some(all) => self.judge_live(p, x, t, all),
+        }
+    }
+
+    // A commit of process p to a live context is done where the process is subscribed, else ignored.
+    fn judge_live(
+        self,
+        p: ProcId,
+        x: ContextId,
+        t: Transaction,
+        all: ProcSet,
+    ) -> Result<Ruled, OutOfMemory>
+        requires process { p.0 < length self.config.types }
+        requires counts { (q : ℕ) → (facts_of self).processes.bundles_sent q < 2 ^ 64 - 1 }
+        requires live { is_live self.config.tabs x ≡ true }
+        requires all { (q : ℕ) → has all q ≡ is_told (facts_of self) q x }
+        ensures { IfOk result (λ r. RuledBy self
+            (commit_ruling (length self.config.types) p.0 x t (facts_of self)) r) }
+    {
+        self.has_few_processes();
+        if all.has(p) {
+            self.allow(p, x, t, all)
+        } else {
+            self.ignore(x)
+        }
+    }
+
+    // A commit of process p is done, and every other subscriber is told.
+    fn allow(
+        self,
+        p: ProcId,
+        x: ContextId,
+        t: Transaction,
+        all: ProcSet,
+    ) -> Result<Ruled, OutOfMemory>
+        requires process { p.0 < length self.config.types }
+        requires counts { (q : ℕ) → (facts_of self).processes.bundles_sent q < 2 ^ 64 - 1 }
+        requires live { is_live self.config.tabs x ≡ true }
+        requires all { (q : ℕ) → has all q ≡ is_told (facts_of self) q x }
+        ensures { IfOk result (λ r. RuledBy self
+            (allowed_ruling (length self.config.types) p.0 x t (facts_of self)) r) }
+    {
+        self.has_few_processes();
+        let answer = allowed_answer(self.alloc(), x, &t)?;
+        let to = others(all, p, &t);
+        self.write(x, t, to, answer)
+    }
+
+    // A commit changes and sends nothing.
+    fn ignore(self, x: ContextId) -> Result<Ruled, OutOfMemory>
+        ensures { IfOk result (λ r. r ≡ record {
+          core = self;
+          answer = Answer.Parts (notes.CommitIgnored x ∷ []);
+          sent = [];
+        }) }
+    {
+        let alloc = self.alloc();
+        let notes = Seq::from_vec(vec![in alloc; PartNote::CommitIgnored(x)]?);
+        Ok(Ruled {
+            core: self,
+            answer: Answer::Parts(notes),
+            sent: Seq::new(alloc),
+        })
+    }
+
+    // Fields of a live context are written, and the processes of a set are told.
+    fn write(
+        self,
+        x: ContextId,
+        t: Transaction,
+        to: ProcSet,
+        answer: Answer,
+    ) -> Result<Ruled, OutOfMemory>
+        requires counts { (q : ℕ) → (facts_of self).processes.bundles_sent q < 2 ^ 64 - 1 }
+        requires live { is_live self.config.tabs x ≡ true }
+        ensures { IfOk result (λ r. RuledBy self
+            (ruling (λ f. f) facts_after (length self.config.types) answer (part_to to (downs.Commit x t))
+            (facts_after (Wrote x t) (facts_of self))) r) }
+    {
+        let alloc = self.alloc();
+        let change = Kept::of(alloc, t.copy()?)?;
+        let mut core = self;
+        core.commit(x, t);
+        let sent = core.send_out(DownPart::Commit { context: x, change }, to)?;
+        Ok(Ruled { core, answer, sent })
+    }
+
+    // Gives fields of a live context their new values.
+    fn commit(&mut self, x: ContextId, t: Transaction)
+        requires live { is_live self.old.config.tabs x ≡ true }
+        ensures config { self.new.config ≡ self.old.config }
+        ensures facts { facts_of self.new ≡ facts_after (Wrote x t) (facts_of self.old) }
+    {
+        commit_to(&mut self.contexts, x, t);
+    }
+
+    // The bundles of one part for the processes of a set, which are counted as sent.
+    fn send_out(
+        &mut self,
+        part: DownPart,
+        to: ProcSet,
+    ) -> Result<Seq<(ProcId, DownBundle)>, OutOfMemory>
+        requires { (q : ℕ) → (facts_of self.old).processes.bundles_sent q < 2 ^ 64 - 1 }
+        ensures config { OnOk result (self.new.config ≡ self.old.config) }
+        ensures facts { OnOk result (facts_of self.new ≡ after_sending (λ f. f) facts_after
+            (length self.old.config.types) (part_to to part) (facts_of self.old)) }
+        ensures sent { IfOk result (λ s. s ≡ bundles_to to (facts_of self.old).processes.commits_heard
+            (part ∷ []) (numbers 0 (length self.old.config.types))) }
+    {
+        let sent = bundles(self.alloc, to, part, self.processes.as_slice())?;
+        count_sent(to, self.processes.as_mut_slice());
+        Ok(sent)
+    }
+
+    // Records the epoch of a commit of process p, which is the one that is due.
+    fn record(&mut self, p: ProcId, e: Epoch)
+        requires process { p.0 < length self.old.config.types }
+        requires due { e.0 ≡ (facts_of self.old).processes.commits_heard p.0 + 1 }
+        requires count { (facts_of self.old).processes.commits_heard p.0 < 2 ^ 64 - 1 }
+        ensures config { self.new.config ≡ self.old.config }
+        ensures facts { facts_of self.new ≡ facts_after (Counted p.0) (facts_of self.old) }
+    {
+        record_epoch(p, e, self.processes.as_mut_slice());
+    }
+}
+
+// The other processes of a set, if anything is modified, else none.
+fn others(all: ProcSet, p: ProcId, t: &Transaction) -> ProcSet
+    requires { p.0 < 16 }
+    ensures { (q : ℕ) → q < 16 →
+        has result q ≡ (list_any is_some t.now && (not (q == p.0) && has all q)) }
+{
+    if is_empty(t) {
+        ProcSet::EMPTY
+    } else {
+        all.without(p)
+    }
+}

@@ -1,7 +1,9 @@
 pub mod Journal
-pub mod Values
-pub mod Tabs
+pub mod Parent
+pub mod Process
+pub mod Moments
+pub mod Next
 pub mod Links
 pub mod View
-pub mod Next
+pub mod Settling
 pub mod Laws

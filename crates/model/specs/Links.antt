@@ -1,48 +1,33 @@
--- What the parent sent to each process, what the process took of it, and what still waits.
-use Rattle.std.specs.Prelude.{ℕ, suc, ◌==◌, Bool, false, ◌&&◌, if◌then◌else◌, Option, None, Some}
-use Rattle.std.specs.Prelude.{List, [], ◌∷◌, ◌++◌, length, take, drop}
+-- The two links of each process: what waits on them by looking back.
+use Rattle.std.specs.Prelude.{ℕ, Bool, true, false, ◌&&◌, List, [], ◌∷◌, map}
+use Rattle.wire_msgs.specs.declared.bundle.DownBundle.{DownBundle}
+use Rattle.wire_msgs.specs.declared.bundle.UpBundle.{UpBundle}
 use Rattle.wire_msgs.specs.declared.config.Config.{Config}
-use Rattle.journal.specs.declared.entry.Step.{Step}
-use Rattle.journal.specs.declared.entry.Step.TheVariants as steps
-use Rattle.model.specs.Journal.{Journal, Commit, is_accepted, commit_of_entry}
-use Rattle.model.specs.Tabs.{is_subscribed}
+use Rattle.traces.specs.Links.{writes_waiting, bundles_waiting}
+use Rattle.model.specs.Journal.{Journal}
+use Rattle.model.specs.Moments.{Moment, Written, events_of, down_bundle}
+use Rattle.model.specs.Moments.Written.{Own, Said}
+use Rattle.model.specs.Next.{moments_of}
 
--- a bundle on a link, which is one commit, and the number of the entry that sent it
-pub record Sent : Type 0 where
-  pub entry : ℕ
-  pub commit : Commit
+-- the bundles among these
+abbrev pub own_bundles : List Written → List UpBundle
+own_bundles [] = []
+own_bundles (Own b ∷ ws) = b ∷ own_bundles ws
+own_bundles (Said says ∷ ws) = own_bundles ws
 
--- what an entry with the number k, which committed this or nothing, sent to process p
-abbrev pub bundles_sent_in : Config → ℕ → ℕ → Option Commit → List Sent
-bundles_sent_in c p k None = []
-bundles_sent_in c p k (Some commit) =
-    if is_subscribed c.tabs commit.context p then record { entry = k; commit = commit } ∷ [] else []
+-- what waits from process p to the parent, the oldest first
+abbrev pub up_waiting : ℕ → List Moment → List UpBundle
+up_waiting p ms = own_bundles (writes_waiting (events_of p ms))
 
--- all that was sent to process p, the oldest first
-unfoldable pub bundles_sent : Config → ℕ → Journal → List Sent
-bundles_sent c p [] = []
-bundles_sent c p (e ∷ older) =
-    bundles_sent c p older ++ bundles_sent_in c p (suc (length older)) (commit_of_entry e)
+-- what waits from the parent to process p, the oldest first
+abbrev pub down_waiting : ℕ → List Moment → List DownBundle
+down_waiting p ms = map down_bundle (bundles_waiting (events_of p ms))
 
--- whether a step is a take of process p
-abbrev pub is_take : ℕ → Step → Bool
-is_take p (steps.ParentAct action) = false
-is_take p (steps.Take q) = q.0 == p
+-- whether nothing is there
+abbrev pub is_nothing : {X : Type 0} → List X → Bool
+is_nothing [] = true
+is_nothing (x ∷ xs) = false
 
--- how many bundles process p took
-unfoldable pub takes : ℕ → Journal → ℕ
-takes p [] = 0
-takes p (e ∷ older) = if is_accepted e.answer && is_take p e.step then suc (takes p older) else takes p older
-
--- what was sent to process p and not taken, the oldest first
-abbrev pub bundles_waiting : Config → ℕ → Journal → List Sent
-bundles_waiting c p j = drop (takes p j) (bundles_sent c p j)
-
--- the entry of the last bundle of a list, or k where there is none
-abbrev pub last_entry : ℕ → List Sent → ℕ
-last_entry k [] = k
-last_entry k (s ∷ ss) = last_entry s.entry ss
-
--- the number of the entry that sent the last bundle that process p took, or 0
-abbrev pub base : Config → ℕ → Journal → ℕ
-base c p j = last_entry 0 (take (takes p j) (bundles_sent c p j))
+-- whether nothing waits on either link of process p
+abbrev pub is_quiet : Config → ℕ → Journal → Bool
+is_quiet c p j = is_nothing (up_waiting p (moments_of c j)) && is_nothing (down_waiting p (moments_of c j))

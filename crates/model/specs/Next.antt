@@ -1,40 +1,18 @@
 -- What a step comes to after a journal, and so which journals there are.
-use Rattle.std.specs.Prelude.{◌≡◌, List, [], ◌∷◌, map, filter, is_some, ⊤, if◌then◌else◌}
-use Rattle.field_table.specs.Field.{fields}
-use Rattle.transaction.specs.Transaction.{Changes, new_value}
-use Rattle.wire_msgs.specs.declared.action.ParentAction.{ParentAction}
-use Rattle.wire_msgs.specs.declared.action.ParentAction.TheVariants as actions
+use Rattle.std.specs.Prelude.{◌≡◌, List, [], ◌∷◌, ⊤}
 use Rattle.wire_msgs.specs.declared.answer.Answer.{Answer}
-use Rattle.wire_msgs.specs.declared.answer.Answer.TheVariants.{Done, Parts, Refused}
-use Rattle.wire_msgs.specs.declared.note.FieldNote.{FieldNote}
-use Rattle.wire_msgs.specs.declared.note.FieldMark.TheVariants.{Applied}
-use Rattle.wire_msgs.specs.declared.note.PartNote.TheVariants.{Commit}
-use Rattle.wire_msgs.specs.declared.refusal.Refusal.TheVariants.{NoContext, Empty}
 use Rattle.wire_msgs.specs.declared.config.Config.{Config}
 use Rattle.journal.specs.declared.entry.Step.{Step}
-use Rattle.journal.specs.declared.entry.Step.TheVariants.{ParentAct, Take}
-use Rattle.model.specs.Journal.{Journal}
-use Rattle.model.specs.Tabs.{is_live}
-use Rattle.model.specs.Links.{Sent, bundles_waiting}
+use Rattle.model.specs.Journal.{Journal, steps_of}
+use Rattle.model.specs.Moments.{Moment, moment, moments}
 
--- the note of each field that a commit modifies, by the fields' numbers
-abbrev pub notes_of : Changes → List FieldNote
-notes_of t = map (λ f. record { field = f; mark = Applied }) (filter (λ f. is_some (new_value t f)) fields)
-
--- what a take comes to where this waits
-abbrev pub take_answer : List Sent → Answer
-take_answer [] = Refused Empty
-take_answer (s ∷ ss) = Parts (Commit s.commit.context (notes_of s.commit.change) ∷ [])
-
--- what an action of the parent comes to; the others aren't played yet
-abbrev pub action_answer : Config → ParentAction → Answer
-action_answer c (actions.Set x t) = if is_live c.tabs x then Done else Refused NoContext
-action_answer c action = Done
+-- what the entries of a journal came to
+abbrev pub moments_of : Config → Journal → List Moment
+moments_of c j = moments c (steps_of j)
 
 -- what a step comes to after a journal
 abbrev pub answer_of : Config → Journal → Step → Answer
-answer_of c j (ParentAct action) = action_answer c action
-answer_of c j (Take p) = take_answer (bundles_waiting c p.0 j)
+answer_of c j s = (moment c (moments_of c j) s).answer
 
 -- each entry has the answer of its step after the entries before it
 unfoldable pub Lawful : Config → Journal → Type 0

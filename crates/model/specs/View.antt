@@ -1,22 +1,91 @@
--- What each side shows of a field.
-use Rattle.std.specs.Prelude.{ℕ, Option, None, Some, if◌then◌else◌}
+-- What each side shows of a field: what a process sees of a journal is told as a trace of that field, and it
+-- shows the view of its trace.
+use Rattle.std.specs.Prelude.{ℕ, List, [], ◌∷◌, Option, None, Some, if◌then◌else◌}
 use Rattle.fission_ids.specs.declared.context.ContextId.{ContextId}
+use Rattle.fission_ids.specs.Ids.{same_context}
 use Rattle.field_table.specs.declared.field.Field.{Field}
 use Rattle.field_table.specs.declared.value.Value.{Value}
+use Rattle.field_table.specs.Field.{initial}
+use Rattle.transaction.specs.Transaction.{Changes, new_value}
 use Rattle.wire_msgs.specs.declared.config.Config.{Config}
-use Rattle.model.specs.Journal.{Journal, up_to}
-use Rattle.model.specs.Tabs.{is_live, is_subscribed}
-use Rattle.model.specs.Values.{value_at}
-use Rattle.model.specs.Links.{base}
+use Rattle.wire_msgs.specs.declared.part.DownPart.{DownPart}
+use Rattle.wire_msgs.specs.declared.part.DownPart.TheVariants as downs
+use Rattle.wire_msgs.specs.declared.part.UpPart.{UpPart}
+use Rattle.wire_msgs.specs.declared.part.UpPart.TheVariants as ups
+use Rattle.protocol.specs.Fold.{or_later}
+use Rattle.protocol.specs.Sayings.{Saying}
+use Rattle.protocol.specs.Sayings.Saying.{Wrote}
+use Rattle.protocol.specs.Start.{is_held_at_start}
+use Rattle.traces.specs.Field.{Content, Look, Trace, trace_for}
+use Rattle.traces.specs.Field.Content.{Nothing, Gives}
+use Rattle.traces.specs.Words.{Start, Stage, stage, while_held}
+use Rattle.traces.specs.Words.Stage.{Held, Coming}
+use Rattle.traces.specs.Words as words
+use Rattle.model.specs.Journal.{Journal}
+use Rattle.model.specs.Moments.{Moment, Written, events_of, facts_now}
+use Rattle.model.specs.Moments.Written.{Own, Said}
+use Rattle.model.specs.Next.{moments_of}
 
--- the entry up to which process p knows the parent's values; as it writes none of its own, its base alone
-abbrev pub point : Config → ℕ → Journal → ℕ
-point c p j = base c p j
+-- ---- a field of a context, in writes and in bundles
 
--- what process p shows of a field of context x, if it holds x: the parent's value at its point
-abbrev pub view : Config → ℕ → ContextId → Field → Journal → Option Value
-view c p x f j = if is_subscribed c.tabs x p then Some (value_at x f (up_to (point c p j) j)) else None
+-- the value that changes of a context have for a field of context x
+abbrev pub value_for : ContextId → Field → ContextId → Changes → Option Value
+value_for x f y t = if same_context x y then new_value t f else None
 
--- what the parent shows of a field of context x, if x is live
+-- the value that a process's bundle has for it
+abbrev pub value_in_parts : ContextId → Field → List UpPart → Option Value
+value_in_parts x f [] = None
+value_in_parts x f (ups.Commit y t ∷ parts) = or_later (value_for x f y t) (value_in_parts x f parts)
+value_in_parts x f (_ ∷ parts) = value_in_parts x f parts
+
+-- the value that the parent said of it last
+abbrev pub value_said : ContextId → Field → List Saying → Option Value
+value_said x f [] = None
+value_said x f (Wrote y t ∷ older) = or_later (value_for x f y t) (value_said x f older)
+value_said x f (_ ∷ older) = value_said x f older
+
+abbrev pub value_written : ContextId → Field → Written → Option Value
+value_written x f (Own b) = value_in_parts x f b.parts
+value_written x f (Said says) = value_said x f says
+
+-- what there is where there is a value
+abbrev pub given : Option Value → Content Value → Content Value
+given None c = c
+given (Some v) c = Gives v
+
+-- what the parent's parts hold for it; so far they are commits
+abbrev pub content_of : ContextId → Field → List DownPart → Content Value
+content_of x f [] = Nothing
+content_of x f (downs.Commit y t ∷ parts) = given (value_for x f y t) (content_of x f parts)
+content_of x f (_ ∷ parts) = content_of x f parts
+
+abbrev pub look : ContextId → Field → Look Written (List DownPart) Value
+look x f = record { value_in = value_written x f; content_in = content_of x f }
+
+-- ---- a process's trace of it
+
+-- how it begins: a process holds the contexts of its tabs
+abbrev pub begin : Config → ℕ → ContextId → Field → Start Value
+begin c p x f = record { initial = initial f; stage = if is_held_at_start c.tabs p x then Held else Coming }
+
+abbrev pub trace : ℕ → ContextId → Field → List Moment → Trace Value
+trace p x f ms = trace_for (look x f) (events_of p ms)
+
+-- the entry that sent the last bundle that process p took, or 0
+abbrev pub base : Config → ℕ → ContextId → Field → Journal → ℕ
+base c p x f j = words.base (trace p x f (moments_of c j))
+
+-- the entry up to which process p knows the parent's value: its base, or a later one that accepted its write
+abbrev pub point : Config → ℕ → ContextId → Field → Journal → ℕ
+point c p x f j = words.point (trace p x f (moments_of c j))
+
+-- what process p shows of it, if it holds the context: its newest own write not yet answered, else the
+-- parent's value at its point
+unfoldable pub view : Config → ℕ → ContextId → Field → Journal → Option Value
+view c p x f j =
+    let h = trace p x f (moments_of c j) in
+    while_held (stage (begin c p x f).stage h) (words.view (begin c p x f) h)
+
+-- what the parent shows of it, if the context is live
 abbrev pub parent_view : Config → ContextId → Field → Journal → Option Value
-parent_view c x f j = if is_live c.tabs x then Some (value_at x f j) else None
+parent_view c x f j = (facts_now c (moments_of c j)).contexts.value x f

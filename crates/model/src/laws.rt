@@ -1,21 +1,34 @@
-ghost use Rattle.model.specs.Laws.{BaseNeverFalls, QuietShowsTheParent, RefusedChangesNothing, TakenWasSent};
+ghost use Rattle.model.specs.Laws.{ProcessShowsTheView, PointNeverFalls, QuietShowsTheParent};
+ghost use Rattle.model.specs.Laws.{SettlingEnds, StepAddsLittle, RefusedChangesNothing};
 
-/// A process's point never goes back: no further entry lowers its base.
-pub fn base_never_falls()
-    ensures { BaseNeverFalls }
+/// What a process answers of a field is its view: its newest own write not yet answered, else the parent's
+/// value at the process's point; and it answers something exactly of what it holds.
+pub fn process_shows_the_view()
+    ensures { ProcessShowsTheView }
 {}
 
-/// A subscribed process for which nothing waits shows each field as the parent does.
+/// A further step lowers neither the base nor the point of a process.
+pub fn point_never_falls()
+    ensures { PointNeverFalls }
+{}
+
+/// A process with nothing on its links shows what the parent shows of each context that it holds.
 pub fn quiet_shows_the_parent()
     ensures { QuietShowsTheParent }
 {}
 
-/// A refused step changes no value, nothing that waits and no view.
-pub fn refused_changes_nothing()
-    ensures { RefusedChangesNothing }
+/// Settling ends. It only adds entries; behind it nothing waits from any process, nor for one that runs; and
+/// the number of entries and the weight of what waits are no more together than before.
+pub fn settling_ends()
+    ensures { SettlingEnds }
 {}
 
-/// In a lawful journal a process took no more bundles than were sent to it.
-pub fn taken_was_sent()
-    ensures { TakenWasSent }
+/// A step adds an entry, and the weight of what waits rises by at most 64.
+pub fn a_step_adds_little()
+    ensures { StepAddsLittle }
+{}
+
+/// A refused step changes no answer of the parent or of a process, and nothing that waits.
+pub fn refused_changes_nothing()
+    ensures { RefusedChangesNothing }
 {}

@@ -1,5 +1,5 @@
-use Rattle.model.proofs.Moments.{quiet_view}
+use Rattle.model.proofs.ShownLaws.{quiet_shows}
 use Rattle.model.proofs.laws.quiet_shows_the_parent.Goals as goal
 
 pub returns : goal.returns
-returns c = quiet_view
+returns c = quiet_shows

@@ -1,5 +1,5 @@
-use Rattle.model.proofs.Moments.{refused_unchanged}
+use Rattle.model.proofs.Refused.{refused_still}
 use Rattle.model.proofs.laws.refused_changes_nothing.Goals as goal
 
 pub returns : goal.returns
-returns c = refused_unchanged
+returns c = refused_still

@@ -1,0 +1,251 @@
+-- What holds between a field's trace and what is answered of the field, on both sides.
+use Rattle.std.proofs.Common.{◌≡◌, ℕ, ◌+◌, Bool, true, false, not, ◌&&◌, if◌then◌else◌, Option, None, Some, is_some, List, [], ◌∷◌, ◌++◌, refl, ap, ap₂, sym, subst, ◌∙◌, arith}
+use Rattle.std.specs.Prelude.{nat_lt}
+use Rattle.fission_ids.specs.declared.context.ContextId.{ContextId}
+use Rattle.fission_ids.specs.Ids.{same_context}
+use Rattle.field_table.specs.declared.field.Field.{Field}
+use Rattle.field_table.specs.declared.value.Value.{Value}
+use Rattle.field_table.specs.Field.{initial}
+use Rattle.transaction.specs.Transaction.{Changes, new_value}
+use Rattle.wire_msgs.specs.declared.config.Config.{Config}
+use Rattle.wire_msgs.specs.declared.config.StartTab.{StartTab}
+use Rattle.wire_msgs.specs.declared.note.FieldMark.TheVariants.{Applied, Obsolete}
+use Rattle.wire_msgs.specs.declared.part.DownPart.{DownPart}
+use Rattle.wire_msgs.specs.declared.part.DownPart.TheVariants as downs
+use Rattle.protocol.specs.Fold.{or_later}
+use Rattle.protocol.specs.Hear.{changes_where, is_noted, is_applied}
+use Rattle.protocol.specs.Sayings.{Saying}
+use Rattle.protocol.specs.Seen.{Seen, Doing}
+use Rattle.protocol.specs.Seen.Doing.{Wrote, Given, Took}
+use Rattle.protocol.specs.Start.{is_live, is_held_at_start, some_if}
+use Rattle.protocol.specs.Take.{taken_mark, taken_notes}
+use Rattle.traces.specs.Event.{Bundle}
+use Rattle.traces.specs.Event.Event.{Writes, Sends, Takes, Accepts, Changes as OthersChange}
+use Rattle.traces.specs.Links.{last_write}
+use Rattle.traces.specs.Field.{Trace, trace_for}
+use Rattle.traces.specs.Field.Content.{Nothing, Gives}
+use Rattle.traces.specs.Words.{Start, Stage, or_else, latest_number, stage, stage_served, while_held}
+use Rattle.traces.specs.Words.Stage.{Held, Coming, Gone}
+use Rattle.traces.specs.Words as words
+use Rattle.traces.specs.Replay.{shown_after_take, shown_after_write, replay}
+use Rattle.traces.specs.Rules.{Fits, Tells, Judges, Where}
+use Rattle.traces.specs.Laws.{Apart}
+use Rattle.traces.proofs.Own.{written_none}
+use Rattle.traces.proofs.Stages.{kept, shows_kept}
+use Rattle.model.specs.Moments.{Written, ProcessEvent}
+use Rattle.model.specs.Moments.Written.{Own, Said}
+use Rattle.model.specs.Parent as parent
+use Rattle.model.specs.Process.{value, newest, own_asked}
+use Rattle.model.specs.View.{value_for, value_said, value_written, given, content_of, look, begin}
+use Rattle.model.proofs.TiesFields.{marked_value}
+use Rattle.model.proofs.TiesStart.{same_context_is}
+use Rattle.model.proofs.TiesTrace.{AreSimple, content_plain, number_plain, stage_is, served_is, written_is, judged, where_all, where_none}
+use Rattle.model.proofs.TiesValues.{no_later, or_value, value_more, none_for, given_nothing}
+use Rattle.model.proofs.Ties.{Ties, IsHonest, own_bundle}
+
+-- the field's trace
+abbrev pub trace_of : ContextId → Field → List ProcessEvent → Trace Value
+trace_of x f evs = trace_for (look x f) evs
+
+-- with what was said, what process p did, and its events
+pub record FieldTies (c : Config) (p : ℕ) (x : ContextId) (f : Field) (says : List Saying) (did : List Doing) (evs : List ProcessEvent) : Type 0 where
+  pub apart : Apart (look x f) evs
+  pub fits : Fits (begin c p x f) (trace_of x f evs)
+  pub newest_is : newest x f did ≡ words.newest (trace_of x f evs)
+  pub shown : value c.tabs p x f did ≡ replay (begin c p x f) (trace_of x f evs)
+  pub told : is_live c.tabs x ≡ true → parent.value c.tabs x f says ≡ Some (words.value (initial f) (trace_of x f evs))
+
+-- ---- the stage
+
+begin_held : (c : Config) (p : ℕ) (x : ContextId) (f : Field) → is_held_at_start c.tabs p x ≡ true → (begin c p x f).stage ≡ Held
+begin_held c p x f held = ap (λ (b : Bool). if b then Held else Coming) held
+
+begin_coming : (c : Config) (p : ℕ) (x : ContextId) (f : Field) → is_held_at_start c.tabs p x ≡ false → (begin c p x f).stage ≡ Held → ⊥
+begin_coming c p x f free e =
+    let coming : (begin c p x f).stage ≡ Coming = ap (λ (b : Bool). if b then Held else Coming) free in
+    let two : Coming ≡ Held = sym coming ∙ e in cc
+
+-- what is held is shown
+held_shown : (c : Config) (p : ℕ) (x : ContextId) (f : Field) (evs : List ProcessEvent) → AreSimple evs → is_held_at_start c.tabs p x ≡ true
+    → replay (begin c p x f) (trace_of x f evs) ≡ Some (kept (begin c p x f) (trace_of x f evs))
+held_shown c p x f evs s held =
+    shows_kept (begin c p x f) (trace_of x f evs)
+    ∙ ap (λ st. while_held st (kept (begin c p x f) (trace_of x f evs))) (stage_is x f (begin c p x f).stage evs s ∙ begin_held c p x f held)
+
+-- ---- the start
+
+start_shown : (b : Bool) (v : Value) → some_if b v ≡ while_held (if b then Held else Coming) v
+start_shown true v = refl
+start_shown false v = refl
+
+pub field_start : (c : Config) (p : ℕ) (x : ContextId) (f : Field) → FieldTies c p x f [] [] []
+unfolding parent.value value newest
+field_start c p x f = record {
+  apart = tt;
+  fits = tt;
+  newest_is = refl;
+  shown = start_shown (is_held_at_start c.tabs p x) (initial f);
+  told = λ live. ap (λ b. some_if b (initial f)) live;
+}
+
+-- ---- the process writes
+
+fit_write : (c : Config) (p : ℕ) (x : ContextId) (f : Field) (evs : List ProcessEvent) (w : Option Value) → AreSimple evs
+    → (is_held_at_start c.tabs p x ≡ false → w ≡ None) → Where w (stage (begin c p x f).stage (trace_of x f evs) ≡ Held)
+fit_write c p x f evs w s none = go (is_held_at_start c.tabs p x) refl
+  where
+    go : (b : Bool) → is_held_at_start c.tabs p x ≡ b → Where w (stage (begin c p x f).stage (trace_of x f evs) ≡ Held)
+    go true held = where_all w (stage (begin c p x f).stage (trace_of x f evs) ≡ Held) (stage_is x f (begin c p x f).stage evs s ∙ begin_held c p x f held)
+    go false free = where_none w (stage (begin c p x f).stage (trace_of x f evs) ≡ Held) (none free)
+
+-- a value that is there is written over, and nothing is written elsewhere
+write_shown : (b : Bool) (o v : Option Value) (before : Value) → (b ≡ true → v ≡ Some before) → (if b then or_later o v else v) ≡ shown_after_write (or_later (if b then o else None) None) v
+write_shown false o v before is = sym (written_none v)
+write_shown true None v before is = sym (written_none v)
+write_shown true (Some w) v before is = ap (shown_after_write (Some w)) (sym (is refl))
+
+write_newest : (b : Bool) (o : Option Value) (k before : ℕ) → (if b && is_some o then k else before) ≡ latest_number (or_later (if b then o else None) None) k before
+write_newest false o k before = refl
+write_newest true None k before = refl
+write_newest true (Some v) k before = refl
+
+pub field_wrote : (c : Config) (p : ℕ) (x : ContextId) (f : Field) (says : List Saying) (did : List Doing) (evs : List ProcessEvent) (n k seen : ℕ) (y : ContextId) (t : Changes)
+    → is_held_at_start c.tabs p y ≡ true → Ties c.tabs p says did evs n → FieldTies c p x f says did evs
+    → FieldTies c p x f says (Wrote y t ∷ did) (Writes (Own (own_bundle k seen y t)) ∷ evs)
+unfolding value newest
+field_wrote c p x f says did evs n k seen y t held ties ft = record {
+  apart = ft.apart;
+  fits = (fit_write c p x f evs (or_later (value_for x f y t) None) ties.simple (λ free. no_later (value_for x f y t) ∙ none_for c.tabs p x f y t held free), ft.fits);
+  newest_is =
+      ap₂ (λ i j. if same_context x y && is_some (new_value t f) then i + 1 else j) (ties.commits_are ∙ sym (written_is x f evs ties.simple)) ft.newest_is
+      ∙ write_newest (same_context x y) (new_value t f) (last_write (trace_of x f evs) + 1) (words.newest (trace_of x f evs));
+  shown =
+      ap (λ v. if same_context x y then or_later (new_value t f) v else v) ft.shown
+      ∙ write_shown (same_context x y) (new_value t f) (replay (begin c p x f) (trace_of x f evs)) (kept (begin c p x f) (trace_of x f evs))
+      (λ e. held_shown c p x f evs ties.simple (ap (is_held_at_start c.tabs p) (same_context_is x y e) ∙ held));
+  told = ft.told;
+}
+
+-- ---- the process takes a bundle
+
+-- what it does at a bundle with a commit of a context that it holds
+abbrev pub did_at_take : Seen → ℕ → ContextId → Changes → List Doing → List Doing
+did_at_take s epoch y t did = Took ∷ Given y (changes_where (is_noted is_applied (taken_notes epoch s y t)) t) ∷ did
+
+mark_applied : (b : Bool) → is_applied (if b then Obsolete else Applied) ≡ not b
+mark_applied true = refl
+mark_applied false = refl
+
+take_shown : (b obsolete : Bool) (o v : Option Value) (st : Stage) (before : Value) → (b ≡ true → v ≡ Some before)
+    → (if b then or_later (if not obsolete then o else None) v else v) ≡ shown_after_take (given (if b then o else None) Nothing) obsolete st v
+take_shown false obsolete o v st before is = refl
+take_shown true true None v st before is = refl
+take_shown true false None v st before is = refl
+take_shown true true (Some w) v st before is = refl
+take_shown true false (Some w) v st before is = ap (shown_after_take (Gives w) false st) (sym (is refl))
+
+pub field_took : (c : Config) (p : ℕ) (x : ContextId) (f : Field) (says : List Saying) (did : List Doing) (evs : List ProcessEvent) (n : ℕ) (d : Bundle (List DownPart)) (y : ContextId) (t : Changes)
+    → is_held_at_start c.tabs p y ≡ true → d.content ≡ downs.Commit y t ∷ [] → Ties c.tabs p says did evs n → FieldTies c p x f says did evs
+    → FieldTies c p x f says (did_at_take (own_asked c.tabs p did) d.epoch y t did) (Takes d ∷ evs)
+unfolding value newest
+field_took c p x f says did evs n d y t held is ties ft = record {
+  apart = ft.apart;
+  fits = (tt, ft.fits);
+  newest_is = ft.newest_is ∙ sym (number_plain (content_of x f d.content) (words.newest (trace_of x f evs)) (content_plain x f d.content));
+  shown =
+      go (same_context x y) refl
+      ∙ take_shown (same_context x y) (nat_lt d.epoch (words.newest (trace_of x f evs))) (new_value t f) (replay (begin c p x f) (trace_of x f evs))
+      (stage (begin c p x f).stage (trace_of x f evs)) (kept (begin c p x f) (trace_of x f evs))
+      (λ e. held_shown c p x f evs ties.simple (ap (is_held_at_start c.tabs p) (same_context_is x y e) ∙ held))
+      ∙ ap (λ (ds : List DownPart). shown_after_take (content_of x f ds) (nat_lt d.epoch (words.newest (trace_of x f evs))) (stage (begin c p x f).stage (trace_of x f evs)) (replay (begin c p x f) (trace_of x f evs))) (sym is);
+  told = ft.told;
+}
+  where
+    fresh : Changes
+    fresh = changes_where (is_noted is_applied (taken_notes d.epoch (own_asked c.tabs p did) y t)) t
+
+    obsolete : same_context x y ≡ true → nat_lt d.epoch (newest y f did) ≡ nat_lt d.epoch (words.newest (trace_of x f evs))
+    obsolete e = ap (λ z. nat_lt d.epoch (newest z f did)) (sym (same_context_is x y e)) ∙ ap (nat_lt d.epoch) ft.newest_is
+
+    fresh_value : same_context x y ≡ true → new_value fresh f ≡ (if not (nat_lt d.epoch (words.newest (trace_of x f evs))) then new_value t f else None)
+    fresh_value e =
+        marked_value is_applied (taken_mark d.epoch (own_asked c.tabs p did) y) t f
+        ∙ ap (λ b. if b then new_value t f else None) (mark_applied (nat_lt d.epoch (newest y f did)) ∙ ap not (obsolete e))
+
+    go : (b : Bool) → same_context x y ≡ b
+        → (if b then or_later (new_value fresh f) (value c.tabs p x f did) else value c.tabs p x f did)
+        ≡ (if b then or_later (if not (nat_lt d.epoch (words.newest (trace_of x f evs))) then new_value t f else None) (replay (begin c p x f) (trace_of x f evs)) else replay (begin c p x f) (trace_of x f evs))
+    go true e = ap₂ or_later (fresh_value e) ft.shown
+    go false e = ft.shown
+
+-- ---- entries of the parent
+
+-- the parent's value behind an entry
+value_told : (tabs : List StartTab) (x : ContextId) (f : Field) (new says : List Saying) (w : Option Value) (before : Value)
+    → value_said x f new ≡ w → parent.value tabs x f says ≡ Some before → parent.value tabs x f (new ++ says) ≡ Some (or_else w before)
+value_told tabs x f new says w before said is =
+    value_more tabs x f new says ∙ ap (λ o. or_later o (parent.value tabs x f says)) said ∙ or_value w (parent.value tabs x f says) before is
+
+-- what is told of a field, by what was said: all of it where the context is held, and nothing elsewhere
+pub record TellsField (c : Config) (p : ℕ) (x : ContextId) (f : Field) (new : List Saying) (parts : List DownPart) : Type 0 where
+  pub held : is_held_at_start c.tabs p x ≡ true → content_of x f parts ≡ given (value_said x f new) Nothing
+  pub unheld : is_held_at_start c.tabs p x ≡ false → content_of x f parts ≡ Nothing
+
+never_served : (c : Config) (p : ℕ) (x : ContextId) (f : Field) (evs : List ProcessEvent) → AreSimple evs → is_held_at_start c.tabs p x ≡ false
+    → stage_served (begin c p x f).stage (trace_of x f evs) ≡ Held → ⊥
+never_served c p x f evs s free e = begin_coming c p x f free (sym (served_is x f (begin c p x f).stage evs s) ∙ e)
+
+pub field_unsent : (c : Config) (p : ℕ) (x : ContextId) (f : Field) (says new : List Saying) (did : List Doing) (evs : List ProcessEvent) (n : ℕ)
+    → TellsField c p x f new [] → Ties c.tabs p says did evs n → FieldTies c p x f says did evs
+    → FieldTies c p x f (new ++ says) did (OthersChange (n + 1) (Said new) ∷ evs)
+field_unsent c p x f says new did evs n tells ties ft = record {
+  apart = ft.apart;
+  fits = ((λ alive. go (is_held_at_start c.tabs p x) refl), ft.fits);
+  newest_is = ft.newest_is;
+  shown = ft.shown;
+  told = λ live. value_told c.tabs x f new says (value_said x f new) (words.value (initial f) (trace_of x f evs)) refl (ft.told live);
+}
+  where
+    go : (b : Bool) → is_held_at_start c.tabs p x ≡ b → Where (value_said x f new) (stage_served (begin c p x f).stage (trace_of x f evs) ≡ Held → ⊥)
+    go true held = where_none (value_said x f new) (stage_served (begin c p x f).stage (trace_of x f evs) ≡ Held → ⊥) (given_nothing (value_said x f new) (tells.held held))
+    go false free = where_all (value_said x f new) (stage_served (begin c p x f).stage (trace_of x f evs) ≡ Held → ⊥) (never_served c p x f evs ties.simple free)
+
+tells_given : (start : Start Value) (u : Option Value) (h : Trace Value) → stage_served start.stage h ≡ Held → Tells start u (given u Nothing) h
+tells_given start None h held = tt
+tells_given start (Some v) h held = (refl, held)
+
+pub field_sent : (c : Config) (p : ℕ) (x : ContextId) (f : Field) (says new : List Saying) (did : List Doing) (evs : List ProcessEvent) (n : ℕ) (parts : List DownPart)
+    → TellsField c p x f new parts → Ties c.tabs p says did evs n → FieldTies c p x f says did evs
+    → FieldTies c p x f (new ++ says) did (Sends (n + 1) (Said new) parts ∷ evs)
+field_sent c p x f says new did evs n parts tells ties ft = record {
+  apart = ((λ some. omega (arith, ties.now_is)), ft.apart);
+  fits = ((λ alive. go (is_held_at_start c.tabs p x) refl), ft.fits);
+  newest_is = ft.newest_is;
+  shown = ft.shown;
+  told = λ live. value_told c.tabs x f new says (value_said x f new) (words.value (initial f) (trace_of x f evs)) refl (ft.told live);
+}
+  where
+    go : (b : Bool) → is_held_at_start c.tabs p x ≡ b → Tells (begin c p x f) (value_said x f new) (content_of x f parts) (trace_of x f evs)
+    go true held =
+        subst (λ u. Tells (begin c p x f) (value_said x f new) u (trace_of x f evs)) (sym (tells.held held))
+        (tells_given (begin c p x f) (value_said x f new) (trace_of x f evs) (served_is x f (begin c p x f).stage evs ties.simple ∙ begin_held c p x f held))
+    go false free =
+        subst (λ u. Tells (begin c p x f) (value_said x f new) u (trace_of x f evs)) (sym (tells.unheld free))
+        (where_all (value_said x f new) (stage_served (begin c p x f).stage (trace_of x f evs) ≡ Held → ⊥) (never_served c p x f evs ties.simple free))
+
+pub field_heard : (c : Config) (p : ℕ) (x : ContextId) (f : Field) (says new : List Saying) (did : List Doing) (evs : List ProcessEvent) (n k sent : ℕ) (w : Written)
+    → IsHonest c.tabs p sent k w → value_said x f new ≡ value_written x f w → Ties c.tabs p says did evs n → FieldTies c p x f says did evs
+    → FieldTies c p x f (new ++ says) did (Accepts (n + 1) w ∷ evs)
+field_heard c p x f says new did evs n k sent w honest said ties ft = record {
+  apart = ft.apart;
+  fits = ((λ alive. go (is_held_at_start c.tabs p x) refl), ft.fits);
+  newest_is = ft.newest_is;
+  shown = ft.shown;
+  told = λ live. value_told c.tabs x f new says (value_written x f w) (words.value (initial f) (trace_of x f evs)) said (ft.told live);
+}
+  where
+    go : (b : Bool) → is_held_at_start c.tabs p x ≡ b → Where (value_written x f w) (Judges (begin c p x f) (trace_of x f evs))
+    go true held = where_all (value_written x f w) (Judges (begin c p x f) (trace_of x f evs)) (judged (begin c p x f) x f evs ties.simple ties.flows ties.rises ft.apart (begin_held c p x f held))
+    go false free =
+        where_none (value_written x f w) (Judges (begin c p x f) (trace_of x f evs))
+        (ap (value_written x f) honest.is ∙ no_later (value_for x f honest.context honest.changes) ∙ none_for c.tabs p x f honest.context honest.changes honest.held free)

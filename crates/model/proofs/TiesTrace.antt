@@ -1,0 +1,129 @@
+-- What a field's trace has of a process's events, where no stage ever changes.
+use Rattle.std.proofs.Common.{◌≡◌, ℕ, ◌+◌, false, Option, None, Some, List, [], ◌∷◌, map, refl, ap, sym, subst, ◌∙◌, arith}
+use Rattle.fission_ids.specs.declared.context.ContextId.{ContextId}
+use Rattle.field_table.specs.declared.field.Field.{Field}
+use Rattle.field_table.specs.declared.value.Value.{Value}
+use Rattle.wire_msgs.specs.declared.part.DownPart.{DownPart}
+use Rattle.wire_msgs.specs.declared.part.DownPart.TheVariants as downs
+use Rattle.traces.specs.Event.{Bundle}
+use Rattle.traces.specs.Event.Event.{Writes, Sends, Takes, Reverts, Does, Ends}
+use Rattle.traces.specs.Links.{last_write, bundles_waiting, is_ended}
+use Rattle.traces.specs.Field.{Content, trace_for, bundle_for}
+use Rattle.traces.specs.Field.Content.{Nothing, Gives}
+use Rattle.traces.specs.Words.{Start, Stage, after, stage, stage_served, number_after, leaving_after, last_leaving}
+use Rattle.traces.specs.Words.Stage.{Held}
+use Rattle.traces.specs.Rules.{IsStay, Stays, Judges, Where, Flows, Rises}
+use Rattle.traces.specs.Laws.{Apart, Projected}
+use Rattle.traces.proofs.Projection.{projection}
+use Rattle.model.specs.Moments.{ProcessEvent, Written}
+use Rattle.model.specs.View.{value_for, given, content_of, look}
+
+-- ---- contents
+
+-- a content that changes no stage
+abbrev pub IsPlain : Content Value → Type 0
+IsPlain Nothing = Unit {0}
+IsPlain (Gives v) = Unit {0}
+IsPlain _ = ⊥
+
+given_plain : (o : Option Value) (c : Content Value) → IsPlain c → IsPlain (given o c)
+given_plain None c plain = plain
+given_plain (Some v) c plain = tt
+
+pub content_plain : (x : ContextId) (f : Field) (parts : List DownPart) → IsPlain (content_of x f parts)
+content_plain x f [] = tt
+content_plain x f (downs.Commit y t ∷ parts) = given_plain (value_for x f y t) (content_of x f parts) (content_plain x f parts)
+content_plain x f (_ ∷ parts) = content_plain x f parts
+
+after_plain : (c : Content Value) (s : Stage) → IsPlain c → after c s ≡ s
+after_plain Nothing s plain = refl
+after_plain (Gives v) s plain = refl
+after_plain _ s plain = absurd plain
+
+pub number_plain : (c : Content Value) (n : ℕ) → IsPlain c → number_after c n ≡ n
+number_plain Nothing n plain = refl
+number_plain (Gives v) n plain = refl
+number_plain _ n plain = absurd plain
+
+leaving_plain : (c : Content Value) (m n : ℕ) → IsPlain c → leaving_after c m n ≡ n
+leaving_plain Nothing m n plain = refl
+leaving_plain (Gives v) m n plain = refl
+leaving_plain _ m n plain = absurd plain
+
+stay_plain : (c : Content Value) → IsPlain c → IsStay c
+stay_plain Nothing plain = tt
+stay_plain (Gives v) plain = tt
+stay_plain _ plain = absurd plain
+
+-- ---- events
+
+-- so far nothing is sent back, no process does anything by itself, and none is ended
+abbrev pub AreSimple : List ProcessEvent → Type 0
+AreSimple [] = Unit {0}
+AreSimple (Reverts k w c ∷ evs) = ⊥
+AreSimple (Does c ∷ evs) = ⊥
+AreSimple (Ends ∷ evs) = ⊥
+AreSimple (_ ∷ evs) = AreSimple evs
+
+pub never_ended : (evs : List ProcessEvent) → AreSimple evs → is_ended evs ≡ false
+never_ended [] s = refl
+never_ended (Reverts k w c ∷ evs) s = absurd s
+never_ended (Does c ∷ evs) s = absurd s
+never_ended (Ends ∷ evs) s = absurd s
+never_ended (_ ∷ evs) s = never_ended evs s
+
+pub stage_is : (x : ContextId) (f : Field) (st : Stage) (evs : List ProcessEvent) → AreSimple evs → stage st (trace_for (look x f) evs) ≡ st
+stage_is x f st [] s = refl
+stage_is x f st (Takes d ∷ evs) s = after_plain (content_of x f d.content) (stage st (trace_for (look x f) evs)) (content_plain x f d.content) ∙ stage_is x f st evs s
+stage_is x f st (Reverts k w c ∷ evs) s = absurd s
+stage_is x f st (Does c ∷ evs) s = absurd s
+stage_is x f st (Ends ∷ evs) s = absurd s
+stage_is x f st (_ ∷ evs) s = stage_is x f st evs s
+
+pub served_is : (x : ContextId) (f : Field) (st : Stage) (evs : List ProcessEvent) → AreSimple evs → stage_served st (trace_for (look x f) evs) ≡ st
+served_is x f st [] s = refl
+served_is x f st (Sends k u c ∷ evs) s = after_plain (content_of x f c) (stage_served st (trace_for (look x f) evs)) (content_plain x f c) ∙ served_is x f st evs s
+served_is x f st (Reverts k w c ∷ evs) s = absurd s
+served_is x f st (Does c ∷ evs) s = absurd s
+served_is x f st (Ends ∷ evs) s = absurd s
+served_is x f st (_ ∷ evs) s = served_is x f st evs s
+
+leaving_is : (x : ContextId) (f : Field) (evs : List ProcessEvent) → AreSimple evs → last_leaving (trace_for (look x f) evs) ≡ 0
+leaving_is x f [] s = refl
+leaving_is x f (Takes d ∷ evs) s = leaving_plain (content_of x f d.content) (last_write (trace_for (look x f) evs)) (last_leaving (trace_for (look x f) evs)) (content_plain x f d.content) ∙ leaving_is x f evs s
+leaving_is x f (Reverts k w c ∷ evs) s = absurd s
+leaving_is x f (Does c ∷ evs) s = absurd s
+leaving_is x f (Ends ∷ evs) s = absurd s
+leaving_is x f (_ ∷ evs) s = leaving_is x f evs s
+
+pub written_is : (x : ContextId) (f : Field) (evs : List ProcessEvent) → AreSimple evs → last_write (trace_for (look x f) evs) ≡ last_write evs
+written_is x f [] s = refl
+written_is x f (Writes w ∷ evs) s = ap (λ n. n + 1) (written_is x f evs s)
+written_is x f (Reverts k w c ∷ evs) s = absurd s
+written_is x f (Does c ∷ evs) s = absurd s
+written_is x f (Ends ∷ evs) s = absurd s
+written_is x f (_ ∷ evs) s = written_is x f evs s
+
+stays : (x : ContextId) (f : Field) (ds : List (Bundle (List DownPart))) → Stays (map (bundle_for (content_of x f)) ds)
+stays x f [] = tt
+stays x f (d ∷ ds) = (stay_plain (content_of x f d.content) (content_plain x f d.content), stays x f ds)
+
+-- a write to a context that is held from the start is judged
+pub judged : (start : Start Value) (x : ContextId) (f : Field) (evs : List ProcessEvent) → AreSimple evs → Flows evs → Rises evs → Apart (look x f) evs
+    → start.stage ≡ Held → Judges start (trace_for (look x f) evs)
+judged start x f evs s flows rises apart held =
+    let same : Projected (look x f) evs = projection Written (List DownPart) Value (look x f) evs flows rises apart in record {
+      serves = served_is x f start.stage evs s ∙ held;
+      since = omega (arith, leaving_is x f evs s);
+      stays = subst (λ ds. Stays ds) (sym same.bundles_wait) (stays x f (bundles_waiting evs));
+    }
+
+-- ---- rules that hold where there is a value
+
+pub where_all : {V : Type 0} (o : Option V) (P : Type 0) → P → Where o P
+where_all None P holds = tt
+where_all (Some v) P holds = holds
+
+pub where_none : {V : Type 0} (o : Option V) (P : Type 0) → o ≡ None → Where o P
+where_none None P e = tt
+where_none (Some v) P e = absurd cc

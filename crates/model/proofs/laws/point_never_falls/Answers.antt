@@ -1,0 +1,5 @@
+use Rattle.model.proofs.ShownLaws.{never_fall}
+use Rattle.model.proofs.laws.point_never_falls.Goals as goal
+
+pub returns : goal.returns
+returns c = never_fall

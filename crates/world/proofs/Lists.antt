@@ -2,7 +2,7 @@
 use Rattle.std.proofs.Common.{◌≡◌, ◌≢◌, ℕ, zero, suc, ◌+◌, ◌<◌, ◌≤◌, List, [], ◌∷◌, ◌++◌, length, map, take, drop, get_or, set, refl, sym, ap, ap₂, ◌∙◌, get_or-drop, arith}
 use Rattle.std.proofs.lemmas.List.{get_or-map, take_more, take_more_set, map-append}
 use Rattle.std.proofs.Math.Seq.{take-append_seam}
-use Rattle.world.specs.Places.{numbers}
+use Rattle.protocol.specs.Start.{numbers}
 
 pub map-same : {A B : Type 0} (f g : A → B) → ((x : A) → f x ≡ g x) → (xs : List A) → map f xs ≡ map g xs
 map-same f g same [] = refl
@@ -91,3 +91,37 @@ cut_more (suc n) (x ∷ xs) y ys e = cut_more n xs y ys e
 -- a list that is written over one of its own length
 pub written_over : {A : Type 0} (n : ℕ) (xs ys : List A) → length xs ≡ n → take n (xs ++ ys) ≡ xs
 written_over n xs ys len = ap (λ m. take m (xs ++ ys)) (sym len) ∙ take-append_seam xs ys
+
+-- an item behind a cut list
+pub cut_with : {A : Type 0} (n : ℕ) (xs : List A) (y : A) → n ≤ length xs → drop n (xs ++ y ∷ []) ≡ drop n xs ++ y ∷ []
+cut_with zero xs y le = refl
+cut_with (suc n) [] y le = absurd (omega (arith, le))
+cut_with (suc n) (x ∷ xs) y le = cut_with n xs y (omega (arith, le))
+
+-- a list by numbers in which one is another
+pub set_one : {A : Type 0} (f g : ℕ → A) (n p : ℕ) (v : A) → v ≡ g p → ((q : ℕ) → q ≢ p → g q ≡ f q) → set (map f (numbers 0 n)) p v ≡ map g (numbers 0 n)
+set_one f g n p v here others = ap (set (map f (numbers 0 n)) p) here ∙ set-numbers f g 0 n p p (omega arith) others
+
+pub same_numbers : {A : Type 0} (f g : ℕ → A) (n : ℕ) → ((q : ℕ) → q < n → f q ≡ g q) → map f (numbers 0 n) ≡ map g (numbers 0 n)
+same_numbers f g n same = from 0 n (λ q lo hi. same q (omega (arith, hi)))
+  where
+    from : (k m : ℕ) → ((q : ℕ) → k ≤ q → q < k + m → f q ≡ g q) → map f (numbers k m) ≡ map g (numbers k m)
+    from k zero at = refl
+    from k (suc m) at = ap₂ (λ x xs. x ∷ xs) (at k (omega arith) (omega arith)) (from (suc k) m (λ q lo hi. at q (omega (arith, lo)) (omega (arith, hi))))
+
+-- what stands behind a front, and another in its place
+pub at_front : {A : Type 0} (front : List A) (x : A) (rest : List A) (d : A) → get_or (front ++ x ∷ rest) (length front) d ≡ x
+at_front [] x rest d = refl
+at_front (y ∷ front) x rest d = at_front front x rest d
+
+pub set_front : {A : Type 0} (front : List A) (x y : A) (rest : List A) → set (front ++ x ∷ rest) (length front) y ≡ front ++ y ∷ rest
+set_front [] x y rest = refl
+set_front (z ∷ front) x y rest = ap (λ xs. z ∷ xs) (set_front front x y rest)
+
+pub append_one : {A : Type 0} (front : List A) (x : A) (rest : List A) → front ++ x ∷ rest ≡ (front ++ x ∷ []) ++ rest
+append_one [] x rest = refl
+append_one (y ∷ front) x rest = ap (λ xs. y ∷ xs) (append_one front x rest)
+
+pub longer : {A : Type 0} (front : List A) (x : A) → suc (length front) ≡ length (front ++ x ∷ [])
+longer [] x = refl
+longer (y ∷ front) x = ap suc (longer front x)

@@ -1,7 +1,4 @@
-pub mod Places
-pub mod ProcessState
-pub mod Start
-pub mod Sending
-pub mod Taking
-pub mod Steps
+pub mod Sides
+pub mod Came
+pub mod Ready
 pub mod Stands

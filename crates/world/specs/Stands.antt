@@ -1,43 +1,49 @@
 -- What a world keeps is what its journal tells.
-use Rattle.std.specs.Prelude.{◌≡◌, ℕ, List, length, map, Option, Some, None, if◌then◌else◌}
-use Rattle.fission_ids.specs.declared.context.ContextId.{ContextId}
-use Rattle.field_table.specs.Field.{fields}
-use Rattle.field_table.specs.Table.{Table}
+use Rattle.std.specs.Prelude.{◌≡◌, ℕ, ◌≤◌, List, length, map, Option, Some}
+use Rattle.wire_msgs.specs.declared.bundle.DownBundle.{DownBundle}
+use Rattle.wire_msgs.specs.declared.bundle.UpBundle.{UpBundle}
 use Rattle.wire_msgs.specs.declared.config.Config.{Config}
-use Rattle.model.specs.Journal.{Journal, up_to}
-use Rattle.model.specs.Values.{value_at}
-use Rattle.model.specs.Tabs.{is_subscribed}
-use Rattle.model.specs.Links.{base, bundles_waiting}
-use Rattle.model.specs.Next.{Lawful}
-use Rattle.world.specs.Places.{numbers, by_tab}
-use Rattle.world.specs.ProcessState.{ProcessState}
-use Rattle.world.specs.Sending.{bundle_of}
+use Rattle.protocol.specs.Start.{numbers}
+use Rattle.content_core.specs.Content.{Kept as ContentKept}
+use Rattle.parent_core.specs.Parent.{Kept as ParentKept, facts_of}
+use Rattle.model.specs.Journal.{Journal}
+use Rattle.model.specs.Laws.{RunFits}
+use Rattle.model.specs.Links.{up_waiting, down_waiting}
+use Rattle.model.specs.Moments.{Moment, facts_now, seen_now}
+use Rattle.model.specs.Next.{Run, Lawful, moments_of}
+use Rattle.world.specs.Sides.{Side, sides_of}
+use Rattle.world.specs.Came.{State}
+use Rattle.world.specs.declared.sides.Sides.{Sides}
 
--- the parent's values of a context after a journal
-abbrev pub table_at : ContextId → Journal → Table
-table_at x j = map (λ f. value_at x f j) fields
+-- process p behind these moments
+abbrev pub side : Config → List Moment → ℕ → Side
+side c ms p = record { process = p; tabs = c.tabs; seen = seen_now c p ms }
 
--- the parent's tables after a journal
-abbrev pub parent_of : Config → Journal → List Table
-parent_of c j = by_tab (λ x. table_at x j) c.tabs
-
--- the table that process p has of a context after a journal, if it holds the context
-abbrev pub held_table : Config → Journal → ℕ → ContextId → Option Table
-held_table c j p x = if is_subscribed c.tabs x p then Some (table_at x (up_to (base c p j) j)) else None
-
--- what process p has after a journal
-abbrev pub process_of : Config → Journal → ℕ → ProcessState
-process_of c j p = record {
-  tables = by_tab (held_table c j p) c.tabs;
-  link = map (λ s. bundle_of s.commit) (bundles_waiting c p j);
+-- all that there is behind these moments
+abbrev pub state : Config → List Moment → State
+state c ms = record {
+  facts = facts_now c ms;
+  sides = map (λ p. Some (side c ms p)) (numbers 0 (length c.types));
+  ups = map (λ p. up_waiting p ms) (numbers 0 (length c.types));
+  downs = map (λ p. down_waiting p ms) (numbers 0 (length c.types));
 }
 
--- what each process has after a journal
-abbrev pub processes_of : Config → Journal → List ProcessState
-processes_of c j = map (process_of c j) (numbers 0 (length c.types))
+-- what the parent, the processes and the links are
+abbrev pub state_of : ParentKept → List (Option ContentKept) → List (List UpBundle)
+    → List (List DownBundle) → State
+state_of parent contents ups downs =
+    record { facts = facts_of parent; sides = sides_of contents; ups = ups; downs = downs }
+
+abbrev pub whole : ParentKept → Sides → State
+whole parent sides = state_of parent sides.contents.items sides.ups.items sides.downs.items
+
+-- the most entries that a journal has
+abbrev pub most_entries : ℕ
+most_entries = 4294967295
 
 -- a world stands for its journal
-pub record Stands (c : Config) (j : Journal) (parent : List Table) (ps : List ProcessState) : Type 0 where
+pub record Stands (c : Config) (j : Journal) (s : State) : Type 0 where
+  pub fits : RunFits (record { config = c; journal = j })
+  pub few : length j ≤ most_entries
   pub lawful : Lawful c j
-  pub parent_is : parent ≡ parent_of c j
-  pub processes_are : ps ≡ processes_of c j
+  pub is : s ≡ state c (moments_of c j)

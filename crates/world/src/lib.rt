@@ -1,20 +1,21 @@
-//! The whole state of a run: the parent, its processes and the links between them. A world is seen as its
-//! configuration and its journal alone. That all else in it is what the journal tells, is the invariant of
-//! its type. Nothing here reads a scenario or prints.
+//! A run: the parent, the processes, the links between them, and the journal of what was done. Each step is
+//! one call of one side, and settling delivers all that waits. Promised upward is that a world stands for its
+//! journal: what each side answers, and what waits, is what the model tells by looking back. Nothing here
+//! judges a write or knows an epoch.
 #![tactic(auto)]
 
-mod process;
-mod tab;
+mod deliver;
+mod settle;
+mod sides;
+mod start;
+mod step;
 mod world;
 
 pub use world::World;
 
-#[cfg(test)]
-mod tests;
+fn crosses<T: Send>() {}
 
-fn crosses<T: Send + Sync>() {}
-
-// The types of this crate may go to another thread, and be shared.
-fn types_cross() {
+// A world may go to another thread.
+fn world_crosses() {
     crosses::<World>();
 }

@@ -1,46 +1,48 @@
-ghost use Rattle.std.specs.Prelude.{◌≡◌, ◌<◌, ◌∷◌, All, length, IfOk, OnOk};
-ghost use Rattle.std.specs.Option.{option_copied};
-ghost use Rattle.journal.specs.Step.{IsPlayed, StepFits};
-ghost use Rattle.model.specs.View.{view, parent_view};
-ghost use Rattle.model.specs.Next.{run_at_start, run_after, action_answer};
+ghost use Rattle.std.specs.Prelude.{◌≡◌, ℕ, ◌<◌, ◌≤◌, ◌∷◌, ◌&&◌, not, length, true, nat_lt, is_some};
+ghost use Rattle.std.specs.Prelude.{IfOk, IfSome, OnOk};
+ghost use Rattle.fission_ids.specs.declared.context.ContextId.{ContextId};
+ghost use Rattle.field_table.specs.declared.field.Field.{Field};
 ghost use Rattle.wire_msgs.specs.Config.{ConfigFits};
-ghost use Rattle.wire_msgs.specs.declared.action.ParentAction.TheVariants.{Set};
-ghost use Rattle.world.specs.Start.{parent_at_start};
-ghost use Rattle.world.specs.Taking.{IsReady};
-ghost use Rattle.world.specs.Steps.{step_answer, parent_after_action, parent_after_step};
-ghost use Rattle.world.specs.Steps.{processes_after_action, processes_after_step};
+ghost use Rattle.journal.specs.Step.{StepFits};
+ghost use Rattle.protocol.specs.Start.{is_held_at_start};
+ghost use Rattle.content_core.specs.Content.{seen_of};
+ghost use Rattle.parent_core.specs.Parent.{facts_of};
+ghost use Rattle.model.specs.Laws.{RunFits};
+ghost use Rattle.model.specs.Links.{is_quiet, is_nothing, up_waiting, down_waiting};
+ghost use Rattle.model.specs.Moments.{seen_now};
+ghost use Rattle.model.specs.Settling.{moments_in};
+ghost use Rattle.model.specs.Next.{run_at_start, run_after};
+ghost use Rattle.model.specs.View.{view, parent_view, base, point};
+ghost use Rattle.world.specs.Stands.{most_entries};
 
-use crate::process::{Process, bundle_of, send, start_processes};
-use crate::tab::place_of;
-use field_table::{Field, Fields, Value};
-use fission_ids::{ContextId, Duplicate, Kept, OutOfMemory, ProcId};
+use crate::sides::Sides;
+use crate::start::start_sides;
+use crate::step::{Came, come};
+use content_core::Content;
+use fission_ids::{OutOfMemory, ProcId};
 use journal::{Entry, Journal, Step};
-use model::is_live;
+use parent_core::Parent;
 use std::alloc::Global;
 use std::marker::Model;
-use transaction::Transaction;
-use wire_msgs::{Answer, Config, ParentAction, Refusal};
+use wire_msgs::{Answer, Config};
 
-/// The state of a run, seen as its configuration and its journal.
+/// A run, seen as how it began and what was done.
 #[derive(Debug, Drop)]
 pub struct World {
-    alloc: Global,
-    config: Config,
+    parent: Parent,
+    sides: Sides,
     journal: Journal,
-    // The parent's fields of each tab's context.
-    parent: Vec<Fields>,
-    processes: Vec<Process>,
 }
 
 impl Model for World {
     ghost use Rattle.model.specs.Next.{Run};
-    ghost use Rattle.world.specs.Stands.{Stands};
+    ghost use Rattle.world.specs.Stands.{Stands, whole};
 
     ghost Value = { Run };
 
-    ghost view = { λ w. record { config = w.config; journal = w.journal } };
+    ghost view = { λ w. record { config = w.parent.config; journal = w.journal } };
 
-    ghost invariant = { λ w. Stands w.config w.journal w.parent.items w.processes.items };
+    ghost invariant = { λ w. Stands w.parent.config w.journal (whole w.parent w.sides) };
 }
 
 impl World {
@@ -49,44 +51,35 @@ impl World {
         requires { ConfigFits config }
         ensures { IfOk result (λ w. w ≡ run_at_start config) }
     {
-        let parent = start_parent(alloc, &config)?;
-        let processes = start_processes(alloc, &config)?;
         Ok(World {
-            alloc,
-            config,
+            parent: Parent::start(alloc, &config)?,
+            sides: start_sides(alloc, &config)?,
             journal: Journal::new(alloc),
-            parent,
-            processes,
         })
     }
 
-    /// The world after one step more. What the step came to is in the newest entry of the journal.
-    /// An error says that memory is wanting, and then nothing of the world is left.
+    /// The world after one step more. What the step came to is in the newest entry of the journal. An error
+    /// says that memory is wanting, and then nothing of the world is left.
     pub fn step(self, step: Step) -> Result<World, OutOfMemory>
-        requires { StepFits (length self.config.types) step }
-        ensures { IfOk result (λ w. w ≡ run_after self step) }
+        requires step { StepFits (length self.config.types) step }
+        requires room { length self.journal < most_entries }
+        ensures run { IfOk result (λ w. w ≡ run_after self step) }
+        ensures base { IfOk result (λ w. (p : ℕ) (x : ContextId) (f : Field) → p < length self.config.types →
+            base self.config p x f self.journal ≤ base w.config p x f w.journal) }
+        ensures point { IfOk result (λ w. (p : ℕ) (x : ContextId) (f : Field) → p < length self.config.types →
+            point self.config p x f self.journal ≤ point w.config p x f w.journal) }
     {
         let World {
-            alloc,
-            config,
+            parent,
+            mut sides,
             mut journal,
-            mut parent,
-            mut processes,
         } = self;
-        let answer = act(
-            alloc,
-            &config,
-            parent.as_mut_slice(),
-            processes.as_mut_slice(),
-            &step,
-        )?;
+        let Came { parent, answer } = come(parent, &mut sides, &step)?;
         keep(&mut journal, step, answer)?;
         Ok(World {
-            alloc,
-            config,
-            journal,
             parent,
-            processes,
+            sides,
+            journal,
         })
     }
 
@@ -94,7 +87,15 @@ impl World {
     pub fn config(&self) -> &Config
         ensures { result.now ≡ self.now.config }
     {
-        &self.config
+        self.parent.config()
+    }
+
+    /// How many processes there are, 1 to 16.
+    pub fn count(&self) -> usize
+        ensures count { result ≡ length self.now.config.types }
+        ensures few { result ≤ 16 }
+    {
+        self.parent.config().types.len()
     }
 
     /// What was done.
@@ -104,40 +105,69 @@ impl World {
         &self.journal
     }
 
-    /// What the parent shows of a field of context x, or None where x isn't live.
-    pub fn parent_field(&self, x: ContextId, f: Field) -> Option<&Value>
-        ensures { option_copied result ≡ parent_view self.now.config x f self.now.journal }
+    /// The parent. It shows of each context what the model has as its view.
+    pub fn parent(&self) -> &Parent
+        ensures config { result.now.config ≡ self.now.config }
+        ensures shows { (x : ContextId) (f : Field) →
+            (facts_of result.now).contexts.value x f ≡ parent_view self.now.config x f self.now.journal }
     {
-        if is_live(self.config.tabs.as_slice(), x) {
-            Some(self.parent[place_of(x)].get(f))
-        } else {
-            None
-        }
+        &self.parent
     }
 
-    /// What process p shows of a field of context x, or None where it doesn't hold x.
-    pub fn process_field(&self, p: ProcId, x: ContextId, f: Field) -> Option<&Value>
+    /// Process p, or None exactly where there is no such process. It shows of each field the optimistic view:
+    /// its newest own write not yet answered, else the parent's value at its point.
+    pub fn content(&self, p: ProcId) -> Option<&Content>
+        ensures there { is_some result ≡ nat_lt p.0 (length self.now.config.types) }
+        ensures shows { IfSome result (λ c. (x : ContextId) (f : Field) →
+            (seen_of c.now).value x f ≡ view self.now.config p.0 x f self.now.journal) }
+    {
+        self.sides.contents.get(p.0 as usize)?.as_ref()
+    }
+
+    /// Whether nothing waits on either link of process p. Then the process shows of each context that it
+    /// holds what the parent shows.
+    pub fn is_quiet(&self, p: ProcId) -> bool
         requires { p.0 < length self.now.config.types }
-        ensures { option_copied result ≡ view self.now.config p.0 x f self.now.journal }
+        ensures exact { result ≡ is_quiet self.now.config p.0 self.now.journal }
+        ensures shows { result ≡ true → (x : ContextId) (f : Field) →
+            is_held_at_start self.now.config.tabs p.0 x ≡ true →
+            view self.now.config p.0 x f self.now.journal ≡ parent_view self.now.config x f self.now.journal }
     {
-        if !is_live(self.config.tabs.as_slice(), x) {
-            return None;
-        }
-        let fields = self.processes[p.0 as usize].fields(x)?;
-        Some(fields.get(f))
+        self.fits();
+        !self.waits_up(p) && !self.waits_down(p)
     }
-}
 
-// The parent's fields of each tab's context before any step.
-fn start_parent(alloc: Global, config: &Config) -> Result<Vec<Fields>, OutOfMemory>
-    ensures { IfOk result (λ parent. parent.items ≡ parent_at_start config.now.tabs) }
-{
-    let count = config.tabs.len();
-    let mut parent = Vec::with_capacity(alloc, count)?;
-    for _ in 0..count {
-        parent.push(Fields::initial())?;
+    // The run fits: its configuration is one that is read, and its steps can be played.
+    pub(crate) fn fits(&self)
+        ensures { RunFits self.now }
+    {
+        let _ = &self.journal;
     }
-    Ok(parent)
+
+    // Whether anything waits from process p.
+    pub(crate) fn waits_up(&self, p: ProcId) -> bool
+        requires { p.0 < length self.now.config.types }
+        ensures { result ≡ not (is_nothing (up_waiting p.0 (moments_in self.now))) }
+    {
+        !self.sides.ups[p.0 as usize].is_empty()
+    }
+
+    // Whether anything waits for process p.
+    pub(crate) fn waits_down(&self, p: ProcId) -> bool
+        requires { p.0 < length self.now.config.types }
+        ensures { result ≡ not (is_nothing (down_waiting p.0 (moments_in self.now))) }
+    {
+        !self.sides.downs[p.0 as usize].is_empty()
+    }
+
+    // Whether process p runs, as each does so far, and anything waits for it.
+    pub(crate) fn can_take(&self, p: ProcId) -> bool
+        requires { p.0 < length self.now.config.types }
+        ensures { result ≡ ((seen_now self.now.config p.0 (moments_in self.now)).running
+            && not (is_nothing (down_waiting p.0 (moments_in self.now)))) }
+    {
+        self.waits_down(p)
+    }
 }
 
 // Keeps what a step came to.
@@ -145,73 +175,4 @@ fn keep(journal: &mut Journal, step: Step, answer: Answer) -> Result<(), OutOfMe
     ensures { OnOk result (journal.new ≡ record { step = step; answer = answer } ∷ journal.old) }
 {
     journal.push(Entry { step, answer })
-}
-
-// What a step comes to. It changes the parent's fields and what each process has.
-fn act(
-    alloc: Global,
-    config: &Config,
-    parent: &mut [Fields],
-    processes: &mut [Process],
-    step: &Step,
-) -> Result<Answer, OutOfMemory>
-    requires step { StepFits (length processes.old) step.now }
-    requires parent { length parent.old ≡ length config.now.tabs }
-    requires processes { All IsReady processes.old }
-    ensures answer { IfOk result (λ a. a ≡ step_answer config.now processes.old step.now) }
-    ensures parent { OnOk result (parent.new ≡ parent_after_step config.now.tabs step.now parent.old) }
-    ensures processes { OnOk result (processes.new ≡
-        processes_after_step config.now.tabs step.now processes.old) }
-{
-    match step {
-        Step::ParentAct { action } => act_in_parent(alloc, config, parent, processes, action),
-        Step::Take { p } => processes[p.0 as usize].take(alloc),
-    }
-}
-
-// What an action of the parent comes to. Nothing but a set is played.
-fn act_in_parent(
-    alloc: Global,
-    config: &Config,
-    parent: &mut [Fields],
-    processes: &mut [Process],
-    action: &ParentAction,
-) -> Result<Answer, OutOfMemory>
-    requires action { IsPlayed action.now }
-    requires parent { length parent.old ≡ length config.now.tabs }
-    ensures answer { IfOk result (λ a. a ≡ action_answer config.now action.now) }
-    ensures parent { OnOk result (parent.new ≡ parent_after_action config.now.tabs action.now parent.old) }
-    ensures processes { OnOk result (processes.new ≡
-        processes_after_action config.now.tabs action.now processes.old) }
-{
-    match action {
-        ParentAction::Set { context, fields } => {
-            set(alloc, config, parent, processes, *context, fields)
-        }
-        _ => unreachable!(),
-    }
-}
-
-// The parent writes fields of a context, if it is there, and sends them to its subscribers in one bundle.
-fn set(
-    alloc: Global,
-    config: &Config,
-    parent: &mut [Fields],
-    processes: &mut [Process],
-    context: ContextId,
-    change: &Kept<Transaction>,
-) -> Result<Answer, OutOfMemory>
-    requires { length parent.old ≡ length config.now.tabs }
-    ensures answer { IfOk result (λ a. a ≡ action_answer config.now (Set context change.now)) }
-    ensures parent { OnOk result (parent.new ≡
-        parent_after_action config.now.tabs (Set context change.now) parent.old) }
-    ensures processes { OnOk result (processes.new ≡
-        processes_after_action config.now.tabs (Set context change.now) processes.old) }
-{
-    if !is_live(config.tabs.as_slice(), context) {
-        return Ok(Answer::Refused(Refusal::NoContext));
-    }
-    send(processes, context, &bundle_of(alloc, context, change)?)?;
-    change.get().copy()?.apply(&mut parent[place_of(context)]);
-    Ok(Answer::Done)
 }

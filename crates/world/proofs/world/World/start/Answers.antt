@@ -1,5 +1,10 @@
-use Rattle.world.proofs.Standing.{stands_at_start}
+use Rattle.std.proofs.Common.{◌≡◌, [], sym, subst}
+use Rattle.model.specs.Journal.{Journal}
+use Rattle.world.specs.Stands.{Stands, state_of}
+use Rattle.world.proofs.Starting.{stands_at_start}
 use Rattle.world.proofs.world.World.start.Goals as goal
 
 pub invariant_of-result : goal.invariant_of-result
-invariant_of-result c = stands_at_start c.args.config c.new.result c.in_ok-parent.parent.items c.in_ok-processes.processes.items c.new.ensures c.in_ok-parent.ensures c.in_ok-processes.ensures
+invariant_of-result c =
+    rw c.new.ensures (stands_at_start c.args.config c.in_ok-start.field-0.config c.in_ok-start.field-0 c.in_ok-start_sides.field-0.contents.items c.in_ok-start_sides.field-0.ups.items c.in_ok-start_sides.field-0.downs.items
+    c.requires c.in_ok-start.ensures.config c.in_ok-start.ensures.facts c.in_ok-start_sides.ensures.contents c.in_ok-start_sides.ensures.ups c.in_ok-start_sides.ensures.downs)

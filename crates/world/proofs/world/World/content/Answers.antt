@@ -1,0 +1,38 @@
+use Rattle.std.proofs.Common.{◌≡◌, ℕ, ◌<◌, true, nat_lt, length, Option, Some, is_some, ap, sym, subst, ◌∙◌}
+use Rattle.std.specs.Prelude.{IfSome, slice_index_or}
+use Rattle.fission_ids.specs.declared.context.ContextId.{ContextId}
+use Rattle.field_table.specs.declared.field.Field.{Field}
+use Rattle.std.specs.Option.{option_map}
+use Rattle.std.proofs.lemmas.Bool.{ltb-true}
+use Rattle.content_core.specs.Content.{Kept, seen_of}
+use Rattle.model.specs.Next.{Run, moments_of}
+use Rattle.model.specs.View.{view}
+use Rattle.world.specs.Sides.{side_of}
+use Rattle.world.specs.Stands.{side}
+use Rattle.world.proofs.Shown.{contents_count, held_at, shows_at, is_there}
+use Rattle.world.proofs.world.World.content.Goals as goal
+
+pub returns-in_err-get-clause-there : goal.returns-in_err-get-clause-there
+returns-in_err-get-clause-there c =
+    ap is_some c.from_residual.ensures ∙ c.in_err-get.ensures.lookup.0
+    ∙ ap (nat_lt c.args.p.0) (ap length c.deref.ensures.value ∙ contents_count c.self.inside.parent.config c.self.inside.journal c.self.inside.parent c.self.inside.sides.contents.items c.self.inside.sides.ups.items c.self.inside.sides.downs.items c.self.invariant ∙ ap (λ (r : Run). length r.config.types) c.self.view_is)
+
+-- the place of the process, and that there is such a process
+within : (c : goal.After-as_ref) → c.args.p.0 < length c.self.inside.parent.config.types
+within c = ltb-true c.args.p.0 (length c.self.inside.parent.config.types) (sym (c.in_ok-get.ensures.lookup.0 ∙ ap (nat_lt c.args.p.0) (ap length c.deref.ensures.value ∙ contents_count c.self.inside.parent.config c.self.inside.journal c.self.inside.parent c.self.inside.sides.contents.items c.self.inside.sides.ups.items c.self.inside.sides.downs.items c.self.invariant)))
+
+held : (c : goal.After-as_ref) → option_map side_of c.in_ok-get.field-0.now ≡ Some (side c.self.inside.parent.config (moments_of c.self.inside.parent.config c.self.inside.journal) c.args.p.0)
+held c =
+    held_at c.self.inside.parent.config c.self.inside.journal c.self.inside.parent c.self.inside.sides.contents.items c.self.inside.sides.ups.items c.self.inside.sides.downs.items c.self.invariant
+    c.args.p.0 c.in_ok-get.field-0.now c.in_ok-get.field-0.now (within c) (subst (λ l. c.in_ok-get.field-0.now ≡ slice_index_or l c.args.p.0 c.in_ok-get.field-0.now) c.deref.ensures.value (c.in_ok-get.ensures.lookup.1))
+
+pub returns-clause-there : goal.returns-clause-there
+returns-clause-there c =
+    c.as_ref.ensures.variant ∙ is_there c.in_ok-get.field-0.now (side c.self.inside.parent.config (moments_of c.self.inside.parent.config c.self.inside.journal) c.args.p.0) (held c)
+    ∙ c.in_ok-get.ensures.lookup.0 ∙ ap (nat_lt c.args.p.0) (ap length c.deref.ensures.value ∙ contents_count c.self.inside.parent.config c.self.inside.journal c.self.inside.parent c.self.inside.sides.contents.items c.self.inside.sides.ups.items c.self.inside.sides.downs.items c.self.invariant ∙ ap (λ (r : Run). length r.config.types) c.self.view_is)
+
+pub returns-clause-shows : goal.returns-clause-shows
+returns-clause-shows c =
+    subst (λ (r : Run). IfSome c.as_ref.result (λ k. (x : ContextId) (f : Field) → (seen_of k.now).value x f ≡ view r.config c.args.p.0 x f r.journal)) c.self.view_is
+    (shows_at c.self.inside.parent.config c.self.inside.journal c.self.inside.parent c.self.inside.sides.contents.items c.self.inside.sides.ups.items c.self.inside.sides.downs.items c.self.invariant
+    c.args.p.0 c.in_ok-get.field-0.now c.as_ref.result (within c) (held c) c.as_ref.ensures.value)

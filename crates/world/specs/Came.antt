@@ -1,0 +1,79 @@
+-- What a step comes to, and what there is behind it.
+use Rattle.std.specs.Prelude.{ℕ, ◌∷◌, List, [], length, false, Option, slice_set}
+use Rattle.wire_msgs.specs.declared.action.Action.{Action}
+use Rattle.wire_msgs.specs.declared.action.ParentAction.{ParentAction}
+use Rattle.wire_msgs.specs.declared.answer.Answer.{Answer}
+use Rattle.wire_msgs.specs.declared.answer.Answer.TheVariants.{Refused}
+use Rattle.wire_msgs.specs.declared.bundle.DownBundle.{DownBundle}
+use Rattle.wire_msgs.specs.declared.bundle.UpBundle.{UpBundle}
+use Rattle.wire_msgs.specs.declared.refusal.Refusal.TheVariants.{Empty}
+use Rattle.journal.specs.declared.entry.Step.{Step}
+use Rattle.journal.specs.declared.entry.Step.TheVariants.{Act, Take, ParentAct, Hear}
+use Rattle.protocol.specs.Questions.{Facts}
+use Rattle.protocol.specs.FactsAfter.{facts_after}
+use Rattle.protocol.specs.Bundle.{Ruling, bundle_ruling}
+use Rattle.protocol.specs.ParentActs.{action_ruling}
+use Rattle.protocol.specs.Start.{numbers}
+use Rattle.parent_core.specs.Ruled.{bundles_of}
+use Rattle.world.specs.Sides.{Side, step_of_action, step_of_bundle, sides_after, sent_by, ups_after}
+use Rattle.world.specs.Sides.{waiting_at, delivered}
+
+-- the parent's answers, the processes, and the links from and to them
+pub record State : Type 0 where
+  pub facts : Facts
+  pub sides : List (Option Side)
+  pub ups : List (List UpBundle)
+  pub downs : List (List DownBundle)
+
+-- an answer, and what there is behind it
+pub record Came : Type 0 where
+  pub answer : Answer
+  pub state : State
+
+-- process p acts
+abbrev pub acted : ℕ → Action → State → Came
+acted p action s =
+    let step = step_of_action p action s.sides in
+    record {
+      answer = step.answer;
+      state = record s { sides = sides_after p step s.sides; ups = ups_after p (sent_by step) s.ups };
+    }
+
+-- process p takes the bundle that waited first of these
+abbrev pub taken : ℕ → List DownBundle → State → Came
+taken p [] s = record { answer = Refused Empty; state = s }
+taken p (b ∷ bs) s =
+    let step = step_of_bundle p b s.sides in
+    record {
+      answer = step.answer;
+      state = record s {
+        sides = sides_after p step s.sides;
+        ups = ups_after p (sent_by step) s.ups;
+        downs = slice_set s.downs p bs;
+      };
+    }
+
+-- the parent rules, where there are n processes
+abbrev pub ruled : ℕ → Ruling Facts → State → Came
+ruled n rule s = record {
+  answer = rule.answer;
+  state = record s { facts = rule.kept; downs = delivered (bundles_of rule (numbers 0 n)) s.downs };
+}
+
+-- the parent acts
+abbrev pub parent_acted : ℕ → ParentAction → State → Came
+parent_acted n action s = ruled n (action_ruling (λ f. f) facts_after n action s.facts) s
+
+-- the parent hears the bundle of process p that waited first of these
+abbrev pub heard : ℕ → ℕ → List UpBundle → State → Came
+heard n p [] s = record { answer = Refused Empty; state = s }
+heard n p (b ∷ bs) s =
+    ruled n (bundle_ruling (λ f. f) facts_after n (λ fld. false) p b s.facts)
+    (record s { ups = slice_set s.ups p bs })
+
+-- what a step comes to, where there are n processes
+abbrev pub came : ℕ → Step → State → Came
+came n (Act p action) s = acted p.0 action s
+came n (Take p) s = taken p.0 (waiting_at p.0 s.downs) s
+came n (ParentAct action) s = parent_acted n action s
+came n (Hear p) s = heard n p.0 (waiting_at p.0 s.ups) s

@@ -14,7 +14,7 @@ mod values;
 
 pub use answers::answer_words;
 pub use items::process_words;
-pub use steps::{action_verb, step_words};
+pub use steps::step_words;
 pub use values::value_words;
 
 #[cfg(test)]

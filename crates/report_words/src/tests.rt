@@ -85,15 +85,18 @@ fn texts_of_notes(rt: HostRuntime) -> Result<(), Fail> {
 #[test]
 fn texts_of_steps(rt: HostRuntime) -> Result<(), Fail> {
     let alloc = rt.alloc();
+    let p = ProcId(7);
+    let own = Action::Close { window: WINDOW };
     let action = ParentAction::Discard { context: CONTEXT };
     for (step, text) in [
+        (Step::Act { p, action: own }, "p7 close"),
         (Step::Take { p: ProcId(0) }, "p0 take"),
         (Step::ParentAct { action }, "parent discard"),
+        (Step::Hear { p }, "parent hear p7"),
     ] {
         assert_eq!(rt; step_words(alloc, &step)?.as_str(), text);
     }
-    assert_eq!(rt; action_verb(&Action::Close { window: WINDOW }), "close");
-    assert_eq!(rt; process_words(alloc, ProcId(7))?.as_str(), "p7");
+    assert_eq!(rt; process_words(alloc, p)?.as_str(), "p7");
     Ok(())
 }
 

@@ -1,8 +1,9 @@
 -- What holds of each scenario that is read.
-use Rattle.std.proofs.Common.{◌≡◌, ℕ, suc, ◌+◌, ◌<◌, ◌≤◌, Bool, true, false, ◌&&◌, cond, ltb, leb, nat_eq, lit≤, List, [], ◌∷◌, length, Option, Some, Result, Ok, Err, refl, ap, subst, arith}
+use Rattle.std.proofs.Common.{◌≡◌, ℕ, suc, ◌+◌, ◌<◌, ◌≤◌, Bool, true, false, ◌&&◌, cond, ltb, leb, nat_eq, lit≤, not, ◌||◌, ◌∙◌, is_some, List, [], ◌∷◌, length, Option, Some, Result, Ok, Err, refl, ap, subst, arith}
 use Rattle.std.specs.Prelude.{IfOk, codes, option_and_then}
-use Rattle.std.specs.List.{AllByRecursion}
+use Rattle.std.specs.List.{AllByRecursion, list_all}
 use Rattle.std.proofs.lemmas.Bool.{ltb-true, leb-true}
+use Rattle.std.proofs.lemmas.List.Folds.{list_all_at}
 use Rattle.serde_json.specs.Data.{Data, Items, no_items, item}
 use Rattle.serde_json.specs.Events.{items_len}
 use Rattle.serde_json.specs.Find.{get, as_str, as_array}
@@ -11,10 +12,16 @@ use Rattle.fission_ids.specs.declared.process.ProcSet.{ProcSet}
 use Rattle.fission_ids.specs.ProcSet.{has}
 use Rattle.fission_ids.specs.declared.context.ContextId.{ContextId}
 use Rattle.field_table.specs.declared.field.Field.{Field}
-use Rattle.transaction.specs.Transaction.{Changes}
-use Rattle.wire_msgs.specs.declared.action.ParentAction.TheVariants as actions
+use Rattle.field_table.specs.Field.{fields, number}
+use Rattle.field_table.proofs.Tables.{stands}
+use Rattle.transaction.specs.Transaction.{Changes, new_value}
+use Rattle.wire_msgs.specs.declared.action.Action.TheVariants as own
+use Rattle.wire_msgs.specs.declared.action.ParentAction.TheVariants as parents
 use Rattle.wire_msgs.specs.declared.config.StartTab.{StartTab}
 use Rattle.wire_msgs.specs.Config.{is_remote_type, IsRemoteType, TabFits}
+use Rattle.protocol.specs.Free.{is_free}
+use Rattle.journal.specs.Step.{IsFree, StepFits}
+use Rattle.journal.specs.declared.entry.Step.{Step}
 use Rattle.journal.specs.declared.entry.Step.TheVariants as steps
 use Rattle.scenario.specs.declared.fault.ReadFault.{ReadFault}
 use Rattle.scenario.specs.declared.fault.ReadFault.TheVariants.{Shape}
@@ -28,7 +35,7 @@ use Rattle.fission_ids.specs.Gives.{Gives}
 use Rattle.scenario.specs.Faults.{is_memory, ◌>>=◌, asks, or_shape}
 use Rattle.scenario.specs.declared.members.Kind.TheVariants as kinds
 use Rattle.scenario.specs.Members.{allows, has_only, is_text, whole_number}
-use Rattle.scenario.specs.Reading.{type_of, types_of, processes_of, process_of, items_in, process_numbers, all_differ, are_others, proc_set_of, also_of, start_tab_of, start_tabs_of, context_at, transaction_of, set_line, take_line, actor_of, field_of, show_line, line_of, lines_of, with_types, scenario_of, or_unread, data_of, reading}
+use Rattle.scenario.specs.Reading.{type_of, types_of, processes_of, process_of, items_in, process_numbers, all_differ, are_others, proc_set_of, also_of, start_tab_of, start_tabs_of, context_at, transaction_of, is_free_in, write_of, set_line, take_line, hear_line, settle_line, actor_of, field_of, show_line, line_of, lines_of, with_types, scenario_of, or_unread, data_of, reading}
 use Rattle.scenario.specs.Fits.{ActorFits, LineFits, Fits}
 use Rattle.scenario.proofs.Also.{set_below, set_of_others}
 
@@ -166,17 +173,50 @@ tabs_fit place n (item d ds) ts e =
 
 -- ---- steps
 
-set_fits : (place n : ℕ) (d : Data) (l : Line) → set_line place d ≡ Ok l → LineFits n l
+actor_fits : (place n : ℕ) (found : Option Data) (who : Actor) → actor_of place n found ≡ Ok who → ActorFits n who
+unfolding actor_of
+actor_fits place n found who e =
+    let read = process_of place n found >>= λ p. Ok (actors.Process p) in
+    let second : read ≡ Ok who → ActorFits n who = λ h.
+    let p = bind_ok (process_of place n found) (λ p. Ok (actors.Process p)) who h in
+    subst (λ (y : Actor). ActorFits n y) (ok_is (actors.Process p.0) who p.2) (process_below place n found p.0 p.1) in
+    either (ActorFits n) (is_text (codes "parent") found) (Ok actors.Parent) read who (λ h. subst (λ (y : Actor). ActorFits n y) (ok_is actors.Parent who h) tt) second e
+
+-- what holds of all fields holds of one
+of_each : (p : Field → Bool) (f : Field) (b : Bool) → list_all p fields ≡ true → p f ≡ b → b ≡ true
+of_each p f true all is = refl
+of_each p f false all is =
+    let none : list_all p fields ≡ false = list_all_at p fields (number f) f (stands f).below (ap p ((stands f).at f) ∙ is) in
+    absurd cc
+
+second_holds : (a b : Bool) → (not a || b) ≡ true → a ≡ true → b ≡ true
+second_holds true b e is = e
+second_holds false b e is = absurd cc
+
+all_free : (t : Changes) → list_all (is_free_in t) fields ≡ true → IsFree t
+all_free t all f is = second_holds (is_some (new_value t f)) (is_free f) (of_each (is_free_in t) f (is_free_in t f) all refl) is
+
+write_fits : (place n : ℕ) (who : Actor) (x : ContextId) (t : Changes) (s : Step) → ActorFits n who → write_of place who x t ≡ Ok s → StepFits n s
+unfolding write_of
+write_fits place n actors.Parent x t s fit e = subst (λ (y : Step). StepFits n y) (ok_is (steps.ParentAct (parents.Set x t)) s e) tt
+write_fits place n (actors.Process p) x t s fit e =
+    let a = asks_ok place (list_all (is_free_in t) fields) (Ok (steps.Act p (own.Set x t))) s e in
+    subst (λ (y : Step). StepFits n y) (ok_is (steps.Act p (own.Set x t)) s a.1) (record { process = fit; played = all_free t a.0 })
+
+set_fits : (place n : ℕ) (d : Data) (l : Line) → set_line place n d ≡ Ok l → LineFits n l
 unfolding set_line
 set_fits place n d l e =
-    let set : ContextId → Changes → Line = λ x t. lines.Step (steps.ParentAct (actions.Set x t)) in
-    let read : ContextId → Result Line ReadFault = λ x. transaction_of place (get (codes "fields") d) >>= λ t. Ok (set x t) in
-    let named = context_at place (get (codes "context") d) >>= read in
-    let a = asks_ok place (has_only (allows kinds.Set) d) (asks place (is_text (codes "parent") (get (codes "at") d)) named) l e in
-    let b = asks_ok place (is_text (codes "parent") (get (codes "at") d)) named l a.1 in
-    let x = bind_ok (context_at place (get (codes "context") d)) read l b.1 in
-    let t = bind_ok (transaction_of place (get (codes "fields") d)) (λ t. Ok (set x.0 t)) l x.2 in
-    subst (λ (y : Line). LineFits n y) (ok_is (set x.0 t.0) l t.2) tt
+    let at = get (codes "at") d in
+    let found = context_at place (get (codes "context") d) in
+    let changed = transaction_of place (get (codes "fields") d) in
+    let written : Actor → ContextId → Changes → Result Line ReadFault = λ who x t. write_of place who x t >>= λ step. Ok (lines.Step step) in
+    let read : Actor → ContextId → Result Line ReadFault = λ who x. changed >>= written who x in
+    let a = asks_ok place (has_only (allows kinds.Set) d) (actor_of place n at >>= λ who. found >>= read who) l e in
+    let who = bind_ok (actor_of place n at) (λ who. found >>= read who) l a.1 in
+    let x = bind_ok found (read who.0) l who.2 in
+    let t = bind_ok changed (written who.0 x.0) l x.2 in
+    let s = bind_ok (write_of place who.0 x.0 t.0) (λ step. Ok (lines.Step step)) l t.2 in
+    subst (λ (y : Line). LineFits n y) (ok_is (lines.Step s.0) l s.2) (write_fits place n who.0 x.0 t.0 s.0 (actor_fits place n at who.0 who.1) s.1)
 
 take_fits : (place n : ℕ) (d : Data) (l : Line) → take_line place n d ≡ Ok l → LineFits n l
 unfolding take_line
@@ -186,14 +226,21 @@ take_fits place n d l e =
     let p = bind_ok (process_of place n at) (λ p. Ok (lines.Step (steps.Take p))) l a.1 in
     subst (λ (y : Line). LineFits n y) (ok_is (lines.Step (steps.Take p.0)) l p.2) (process_below place n at p.0 p.1)
 
-actor_fits : (place n : ℕ) (found : Option Data) (who : Actor) → actor_of place n found ≡ Ok who → ActorFits n who
-unfolding actor_of
-actor_fits place n found who e =
-    let read = process_of place n found >>= λ p. Ok (actors.Process p) in
-    let second : read ≡ Ok who → ActorFits n who = λ h.
-    let p = bind_ok (process_of place n found) (λ p. Ok (actors.Process p)) who h in
-    subst (λ (y : Actor). ActorFits n y) (ok_is (actors.Process p.0) who p.2) (process_below place n found p.0 p.1) in
-    either (ActorFits n) (is_text (codes "parent") found) (Ok actors.Parent) read who (λ h. subst (λ (y : Actor). ActorFits n y) (ok_is actors.Parent who h) tt) second e
+hear_fits : (place n : ℕ) (d : Data) (l : Line) → hear_line place n d ≡ Ok l → LineFits n l
+unfolding hear_line
+hear_fits place n d l e =
+    let from = get (codes "from") d in
+    let heard = process_of place n from >>= λ p. Ok (lines.Step (steps.Hear p)) in
+    let a = asks_ok place (has_only (allows kinds.Hear) d) (asks place (is_text (codes "parent") (get (codes "at") d)) heard) l e in
+    let b = asks_ok place (is_text (codes "parent") (get (codes "at") d)) heard l a.1 in
+    let p = bind_ok (process_of place n from) (λ p. Ok (lines.Step (steps.Hear p))) l b.1 in
+    subst (λ (y : Line). LineFits n y) (ok_is (lines.Step (steps.Hear p.0)) l p.2) (process_below place n from p.0 p.1)
+
+settle_fits : (place n : ℕ) (d : Data) (l : Line) → settle_line place d ≡ Ok l → LineFits n l
+unfolding settle_line
+settle_fits place n d l e =
+    let a = asks_ok place (has_only (allows kinds.Settle) d) (Ok lines.Settle) l e in
+    subst (λ (y : Line). LineFits n y) (ok_is lines.Settle l a.1) tt
 
 show_fits : (place n : ℕ) (d : Data) (l : Line) → show_line place n d ≡ Ok l → LineFits n l
 unfolding show_line
@@ -212,12 +259,16 @@ line_fits : (place n : ℕ) (d : Data) (l : Line) → line_of place n d ≡ Ok l
 unfolding line_of
 line_fits place n d l e =
     let does = get (codes "do") d in
-    let third = cond (is_text (codes "show") does) (show_line place n d) (Err (Shape place)) in
-    let second = cond (is_text (codes "take") does) (take_line place n d) third in
+    let show = cond (is_text (codes "show") does) (show_line place n d) (Err (Shape place)) in
+    let settle = cond (is_text (codes "settle") does) (settle_line place d) show in
+    let hear = cond (is_text (codes "hear") does) (hear_line place n d) settle in
+    let take = cond (is_text (codes "take") does) (take_line place n d) hear in
     let none : Err (Shape place) ≡ Ok l → LineFits n l = λ h. absurd cc in
-    let shown : third ≡ Ok l → LineFits n l = either (LineFits n) (is_text (codes "show") does) (show_line place n d) (Err (Shape place)) l (show_fits place n d l) none in
-    let taken : second ≡ Ok l → LineFits n l = either (LineFits n) (is_text (codes "take") does) (take_line place n d) third l (take_fits place n d l) shown in
-    either (LineFits n) (is_text (codes "set") does) (set_line place d) second l (set_fits place n d l) taken e
+    let shown : show ≡ Ok l → LineFits n l = either (LineFits n) (is_text (codes "show") does) (show_line place n d) (Err (Shape place)) l (show_fits place n d l) none in
+    let settled : settle ≡ Ok l → LineFits n l = either (LineFits n) (is_text (codes "settle") does) (settle_line place d) show l (settle_fits place n d l) shown in
+    let heard : hear ≡ Ok l → LineFits n l = either (LineFits n) (is_text (codes "hear") does) (hear_line place n d) settle l (hear_fits place n d l) settled in
+    let taken : take ≡ Ok l → LineFits n l = either (LineFits n) (is_text (codes "take") does) (take_line place n d) hear l (take_fits place n d l) heard in
+    either (LineFits n) (is_text (codes "set") does) (set_line place n d) take l (set_fits place n d l) taken e
 
 -- the steps from a place on
 record LinesFit (place n : ℕ) (ls : List Line) : Type 0 where

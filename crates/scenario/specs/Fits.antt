@@ -17,9 +17,10 @@ ActorFits n (actors.Process p) = p.0 < n
 
 abbrev pub LineFits : ℕ → Line → Type 0
 LineFits n (lines.Step step) = StepFits n step
+LineFits n lines.Settle = ⊤
 LineFits n (lines.Show (shows.One who context field)) = ActorFits n who
 
--- a run may begin so, and there are at most 20,000 steps, which name processes that exist
+-- a run may begin so, and there are at most 20,000 steps, which can be played
 pub record Fits (s : Scenario) : Type 0 where
   pub config : ConfigFits s.config
   pub steps : length s.lines ≤ 20000

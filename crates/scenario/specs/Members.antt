@@ -21,6 +21,8 @@ object_keys kinds.Top = codes "version" ∷ codes "processes" ∷ codes "tabs" �
 object_keys kinds.Tab = codes "owner" ∷ codes "also" ∷ []
 object_keys kinds.Set = codes "do" ∷ codes "at" ∷ codes "context" ∷ codes "fields" ∷ []
 object_keys kinds.Take = codes "do" ∷ codes "at" ∷ []
+object_keys kinds.Hear = codes "do" ∷ codes "at" ∷ codes "from" ∷ []
+object_keys kinds.Settle = codes "do" ∷ []
 object_keys kinds.Show = codes "do" ∷ codes "at" ∷ codes "context" ∷ codes "field" ∷ []
 
 -- whether the key is one of these

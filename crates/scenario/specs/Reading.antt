@@ -1,7 +1,8 @@
 -- What bytes read as: the scenario, or the first fault. A fault of shape tells its place: 0 for the top
 -- object, 100000 + n for the n-th tab, n for the n-th step, 20001 for more than 20,000 steps.
-use Rattle.std.specs.Prelude.{◌+◌, ◌==◌, ◌&&◌, ℕ, List, [], ◌∷◌, length, Bool, true, not, nat_lt, nat_le}
-use Rattle.std.specs.Prelude.{if◌then◌else◌, Option, None, Some, Result, Ok, Err, codes, option_and_then}
+use Rattle.std.specs.Prelude.{◌+◌, ◌==◌, ◌&&◌, ◌||◌, ℕ, List, [], ◌∷◌, length, Bool, true, not}
+use Rattle.std.specs.Prelude.{nat_lt, nat_le, if◌then◌else◌, Option, None, Some, is_some, option_and_then}
+use Rattle.std.specs.Prelude.{Result, Ok, Err, codes}
 use Rattle.std.specs.List.{list_all}
 use Rattle.std.specs.Str.{is_utf8}
 use Rattle.serde_json.specs.Data.{Data, Items, no_items, item, Members}
@@ -18,10 +19,13 @@ use Rattle.field_table.specs.declared.value.Value.{Value}
 use Rattle.field_table.specs.declared.value.ValueFault.{ValueFault}
 use Rattle.field_table.specs.Field.{fields, name, kind}
 use Rattle.field_table.specs.Reading.{value_of}
-use Rattle.transaction.specs.Transaction.{Changes}
-use Rattle.wire_msgs.specs.declared.action.ParentAction.TheVariants as actions
+use Rattle.transaction.specs.Transaction.{Changes, new_value}
+use Rattle.wire_msgs.specs.declared.action.Action.TheVariants as own
+use Rattle.wire_msgs.specs.declared.action.ParentAction.TheVariants as parents
 use Rattle.wire_msgs.specs.declared.config.StartTab.{StartTab}
 use Rattle.wire_msgs.specs.Config.{is_remote_type}
+use Rattle.protocol.specs.Free.{is_free}
+use Rattle.journal.specs.declared.entry.Step.{Step}
 use Rattle.journal.specs.declared.entry.Step.TheVariants as steps
 use Rattle.scenario.specs.declared.fault.ReadFault.{ReadFault}
 use Rattle.scenario.specs.declared.fault.ReadFault.TheVariants.{Unread, Shape}
@@ -102,6 +106,12 @@ start_tabs_of place n (item d ds) =
 
 -- ---- steps
 
+-- the parent, or the number of a process
+unfoldable pub actor_of : ℕ → ℕ → Option Data → Result Actor ReadFault
+actor_of place n found =
+    if is_text (codes "parent") found then Ok actors.Parent
+    else (process_of place n found >>= λ p. Ok (actors.Process p))
+
 -- the context that a member names
 unfoldable pub context_at : ℕ → Option Data → Result ContextId ReadFault
 context_at place found = or_shape place (option_and_then context_of (option_and_then as_str found))
@@ -138,14 +148,24 @@ transaction_of place found =
     or_shape place (option_and_then as_object found) >>= λ ms.
     asks place (has_member ms) (named_changes place ms)
 
--- fields that the parent writes
-unfoldable pub set_line : ℕ → Data → Result Line ReadFault
-set_line place d =
+-- whether a field isn't modified, or is one that every process may write
+abbrev pub is_free_in : Changes → Field → Bool
+is_free_in t f = not (is_some (new_value t f)) || is_free f
+
+-- what one side does that writes fields: a process only those that every process may write
+unfoldable pub write_of : ℕ → Actor → ContextId → Changes → Result Step ReadFault
+write_of place actors.Parent x t = Ok (steps.ParentAct (parents.Set x t))
+write_of place (actors.Process p) x t =
+    asks place (list_all (is_free_in t) fields) (Ok (steps.Act p (own.Set x t)))
+
+-- fields that one side writes
+unfoldable pub set_line : ℕ → ℕ → Data → Result Line ReadFault
+set_line place n d =
     asks place (has_only (allows kinds.Set) d)
-    (asks place (is_text (codes "parent") (get (codes "at") d))
-    (context_at place (get (codes "context") d) >>= λ context.
+    (actor_of place n (get (codes "at") d) >>= λ who.
+    context_at place (get (codes "context") d) >>= λ context.
     transaction_of place (get (codes "fields") d) >>= λ t.
-    Ok (lines.Step (steps.ParentAct (actions.Set context t)))))
+    write_of place who context t >>= λ step. Ok (lines.Step step))
 
 -- a bundle that a process takes
 unfoldable pub take_line : ℕ → ℕ → Data → Result Line ReadFault
@@ -153,11 +173,16 @@ take_line place n d =
     asks place (has_only (allows kinds.Take) d)
     (process_of place n (get (codes "at") d) >>= λ p. Ok (lines.Step (steps.Take p)))
 
--- the parent, or the number of a process
-unfoldable pub actor_of : ℕ → ℕ → Option Data → Result Actor ReadFault
-actor_of place n found =
-    if is_text (codes "parent") found then Ok actors.Parent
-    else (process_of place n found >>= λ p. Ok (actors.Process p))
+-- a bundle of a process that the parent hears
+unfoldable pub hear_line : ℕ → ℕ → Data → Result Line ReadFault
+hear_line place n d =
+    asks place (has_only (allows kinds.Hear) d)
+    (asks place (is_text (codes "parent") (get (codes "at") d))
+    (process_of place n (get (codes "from") d) >>= λ p. Ok (lines.Step (steps.Hear p))))
+
+-- all that waits, which is heard and taken
+unfoldable pub settle_line : ℕ → Data → Result Line ReadFault
+settle_line place d = asks place (has_only (allows kinds.Settle) d) (Ok lines.Settle)
 
 unfoldable pub field_of : ℕ → Option Data → Result Field ReadFault
 field_of place found = or_shape place (option_and_then field_named (option_and_then as_str found))
@@ -174,10 +199,12 @@ show_line place n d =
 -- a step, by what it does
 unfoldable pub line_of : ℕ → ℕ → Data → Result Line ReadFault
 line_of place n d =
-    if is_text (codes "set") (get (codes "do") d) then set_line place d
+    if is_text (codes "set") (get (codes "do") d) then set_line place n d
     else (if is_text (codes "take") (get (codes "do") d) then take_line place n d
+    else (if is_text (codes "hear") (get (codes "do") d) then hear_line place n d
+    else (if is_text (codes "settle") (get (codes "do") d) then settle_line place d
     else (if is_text (codes "show") (get (codes "do") d) then show_line place n d
-    else Err (Shape place)))
+    else Err (Shape place)))))
 
 -- the steps from this place on, of which there are at most 20,000
 unfoldable pub lines_of : ℕ → ℕ → Items → Result (List Line) ReadFault

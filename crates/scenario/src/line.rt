@@ -43,6 +43,8 @@ impl Duplicate for Show {
 pub enum Line {
     /// An actor does something.
     Step(Step),
+    /// All that waits is heard and taken, until nothing waits.
+    Settle,
     /// Something is shown. It changes nothing.
     Show(Show),
 }
@@ -51,6 +53,7 @@ impl Duplicate for Line {
     fn copy(&self) -> Result<Line, OutOfMemory> {
         match self {
             Line::Step(step) => Ok(Line::Step(step.copy()?)),
+            Line::Settle => Ok(Line::Settle),
             Line::Show(show) => Ok(Line::Show(show.copy()?)),
         }
     }

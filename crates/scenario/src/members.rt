@@ -19,6 +19,10 @@ pub enum Kind {
     Set,
     /// A step that takes a bundle.
     Take,
+    /// A step that hears a bundle.
+    Hear,
+    /// A step that hears and takes all that waits.
+    Settle,
     /// A step that shows a field.
     Show,
 }
@@ -48,6 +52,8 @@ fn allows(kind: Kind, key: &str) -> bool
         Kind::Tab => key == "owner" || key == "also",
         Kind::Set => key == "do" || key == "at" || key == "context" || key == "fields",
         Kind::Take => key == "do" || key == "at",
+        Kind::Hear => key == "do" || key == "at" || key == "from",
+        Kind::Settle => key == "do",
         Kind::Show => key == "do" || key == "at" || key == "context" || key == "field",
     }
 }

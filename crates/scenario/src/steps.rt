@@ -1,13 +1,19 @@
-ghost use Rattle.std.specs.Prelude.{◌≡◌, ◌≤◌, true, option_and_then, IfOk};
+ghost use Rattle.std.specs.Prelude.{◌≡◌, ◌≤◌, true, option_and_then, Ok, IfOk};
+ghost use Rattle.std.specs.List.{list_all};
 ghost use Rattle.serde_json.specs.Find.{as_object};
 ghost use Rattle.serde_json.specs.View.{view, items_view, members_view};
-ghost use Rattle.field_table.specs.Field.{kind};
+ghost use Rattle.field_table.specs.Field.{fields as all_fields, kind};
 ghost use Rattle.field_table.specs.Reading.{value_of};
 ghost use Rattle.field_table.specs.Value.{is_of};
+ghost use Rattle.protocol.specs.Free.{is_free};
 ghost use Rattle.fission_ids.specs.Gives.{Gives, GivesBy};
-ghost use Rattle.scenario.specs.Faults.{is_memory, or_shape};
+ghost use Rattle.wire_msgs.specs.declared.action.Action.TheVariants as own;
+ghost use Rattle.wire_msgs.specs.declared.action.ParentAction.TheVariants as parents;
+ghost use Rattle.journal.specs.declared.entry.Step.TheVariants as steps;
+ghost use Rattle.scenario.specs.Faults.{is_memory, or_shape, asks};
 ghost use Rattle.scenario.specs.Members.{data_found};
-ghost use Rattle.scenario.specs.Reading.{lines_of, line_of, set_line, take_line, show_line};
+ghost use Rattle.scenario.specs.Reading.{lines_of, line_of, set_line, take_line, hear_line, settle_line};
+ghost use Rattle.scenario.specs.Reading.{show_line, write_of, is_free_in};
 ghost use Rattle.scenario.specs.Reading.{context_at, actor_of, field_of};
 ghost use Rattle.scenario.specs.Reading.{transaction_of, named_changes, named_change, or_no_value};
 
@@ -15,13 +21,14 @@ use crate::fault::ReadFault;
 use crate::line::{Actor, Line, Show};
 use crate::members::{Kind, field_named, has_member, has_only, is_text};
 use crate::processes::process_of;
+use field_rules::Rule;
 use field_table::{Field, ValueFault};
-use fission_ids::{ContextId, Kept, Seq};
+use fission_ids::{ContextId, Kept, ProcId, Seq};
 use journal::Step;
 use serde_json::{Map, Value};
 use std::alloc::Global;
 use transaction::Transaction;
-use wire_msgs::ParentAction;
+use wire_msgs::{Action, ParentAction};
 
 const MAX_STEPS: u32 = 20_000;
 
@@ -49,9 +56,13 @@ fn line_of(alloc: Global, place: u32, count: u8, v: &Value) -> Result<Line, Read
     ensures { Gives is_memory result (line_of place count (view v.now)) }
 {
     if is_text(v.get("do"), "set") {
-        set_line(alloc, place, v)
+        set_line(alloc, place, count, v)
     } else if is_text(v.get("do"), "take") {
         take_line(place, count, v)
+    } else if is_text(v.get("do"), "hear") {
+        hear_line(place, count, v)
+    } else if is_text(v.get("do"), "settle") {
+        settle_line(place, v)
     } else if is_text(v.get("do"), "show") {
         show_line(place, count, v)
     } else {
@@ -60,21 +71,86 @@ fn line_of(alloc: Global, place: u32, count: u8, v: &Value) -> Result<Line, Read
 }
 
 #[tactic(auto, unfolding(crate::specs::Reading::set_line))]
-fn set_line(alloc: Global, place: u32, v: &Value) -> Result<Line, ReadFault>
-    ensures { Gives is_memory result (set_line place (view v.now)) }
+fn set_line(alloc: Global, place: u32, count: u8, v: &Value) -> Result<Line, ReadFault>
+    ensures { Gives is_memory result (set_line place count (view v.now)) }
 {
     if !has_only(v, Kind::Set) {
         return Err(ReadFault::Shape { place });
     }
-    if !is_text(v.get("at"), "parent") {
-        return Err(ReadFault::Shape { place });
-    }
+    let who = actor_of(place, count, v.get("at"))?;
     let context = context_at(place, v.get("context"))?;
     let fields = transaction_of(alloc, place, v.get("fields"))?;
+    let step = write_of(alloc, place, who, context, fields)?;
+    Ok(Line::Step(step))
+}
+
+// What one side does that writes fields.
+#[tactic(auto, unfolding(crate::specs::Reading::write_of))]
+fn write_of(
+    alloc: Global,
+    place: u32,
+    who: Actor,
+    context: ContextId,
+    fields: Transaction,
+) -> Result<Step, ReadFault>
+    ensures { Gives is_memory result (write_of place who context fields) }
+{
+    match who {
+        Actor::Parent => parent_write(alloc, context, fields),
+        Actor::Process(p) => process_write(alloc, place, p, context, fields),
+    }
+}
+
+fn parent_write(alloc: Global, context: ContextId, fields: Transaction) -> Result<Step, ReadFault>
+    ensures { Gives is_memory result (Ok (steps.ParentAct (parents.Set context fields))) }
+{
     let fields = Kept::of(alloc, fields)?;
-    Ok(Line::Step(Step::ParentAct {
+    Ok(Step::ParentAct {
         action: ParentAction::Set { context, fields },
-    }))
+    })
+}
+
+fn process_write(
+    alloc: Global,
+    place: u32,
+    p: ProcId,
+    context: ContextId,
+    fields: Transaction,
+) -> Result<Step, ReadFault>
+    ensures { Gives is_memory result
+        (asks place (list_all (is_free_in fields) all_fields) (Ok (steps.Act p (own.Set context fields)))) }
+{
+    if !are_free(&fields, &Field::ALL) {
+        return Err(ReadFault::Shape { place });
+    }
+    let fields = Kept::of(alloc, fields)?;
+    Ok(Step::Act {
+        p,
+        action: Action::Set { context, fields },
+    })
+}
+
+// Whether every process may write those of these fields that are modified.
+fn are_free(fields: &Transaction, among: &[Field]) -> bool
+    ensures { result ≡ list_all (is_free_in fields.now) among.now }
+{
+    among.iter().all(|f| is_free_in(fields, *f))
+}
+
+fn is_free_in(fields: &Transaction, f: Field) -> bool
+    ensures { result ≡ is_free_in fields.now f }
+{
+    fields.value(f).is_none() || is_free(f)
+}
+
+// Whether every process may write a field of a top-level context.
+fn is_free(f: Field) -> bool
+    ensures { result ≡ is_free f }
+{
+    match Rule::of(f) {
+        Rule::Any | Rule::TopOnly => true,
+        _ => false,
+    }
 }
 
 #[tactic(auto, unfolding(crate::specs::Reading::take_line))]
@@ -86,6 +162,30 @@ fn take_line(place: u32, count: u8, v: &Value) -> Result<Line, ReadFault>
     }
     let p = process_of(place, count, v.get("at"))?;
     Ok(Line::Step(Step::Take { p }))
+}
+
+#[tactic(auto, unfolding(crate::specs::Reading::hear_line))]
+fn hear_line(place: u32, count: u8, v: &Value) -> Result<Line, ReadFault>
+    ensures { Gives is_memory result (hear_line place count (view v.now)) }
+{
+    if !has_only(v, Kind::Hear) {
+        return Err(ReadFault::Shape { place });
+    }
+    if !is_text(v.get("at"), "parent") {
+        return Err(ReadFault::Shape { place });
+    }
+    let p = process_of(place, count, v.get("from"))?;
+    Ok(Line::Step(Step::Hear { p }))
+}
+
+#[tactic(auto, unfolding(crate::specs::Reading::settle_line))]
+fn settle_line(place: u32, v: &Value) -> Result<Line, ReadFault>
+    ensures { Gives is_memory result (settle_line place (view v.now)) }
+{
+    if !has_only(v, Kind::Settle) {
+        return Err(ReadFault::Shape { place });
+    }
+    Ok(Line::Settle)
 }
 
 #[tactic(auto, unfolding(crate::specs::Reading::show_line))]

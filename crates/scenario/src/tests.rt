@@ -5,7 +5,7 @@ use journal::Step;
 use std::alloc::{AllocError, Global};
 use std::test::Fail;
 use transaction::Transaction;
-use wire_msgs::ParentAction;
+use wire_msgs::{Action, ParentAction};
 
 // What is told of the three texts in a row.
 fn fault(
@@ -36,16 +36,27 @@ const MOST: &str = r#"{
         }},
         {"at": 1, "do": "show", "context": "c9.10", "field": "DisplayMode"},
         {"at": "parent", "do": "show", "context": "c0.64", "field": "Name"},
-        {"at": 2, "do": "take"}
+        {"at": 2, "do": "take"},
+        {"at": 1, "do": "set", "context": "c2.7", "fields": {
+            "UserAgentOverride": "w", "DisplayMode": 1, "Closed": true
+        }},
+        {"at": "parent", "do": "hear", "from": 2},
+        {"do": "settle"}
     ]
 }"#;
 
-// The context and the values that the parent writes in a step, in the order of the fields.
-fn parent_write(alloc: Global, line: &Line) -> Result<String, AllocError> {
+// The context and the values that a side writes in a step, in the order of the fields.
+fn write(alloc: Global, line: &Line) -> Result<String, AllocError> {
     match line {
         Line::Step(
             Step::ParentAct {
                 action: ParentAction::Set { context, fields },
+            },
+        ) => values(alloc, *context, fields.get()),
+        Line::Step(
+            Step::Act {
+                p: ProcId(1),
+                action: Action::Set { context, fields },
             },
         ) => values(alloc, *context, fields.get()),
         _ => Ok(String::new(alloc)),
@@ -79,21 +90,25 @@ fn a_scenario_with_most_in_it(rt: HostRuntime) -> Result<(), Fail> {
         return Err("three tabs stand there")?;
     };
     assert!(rt; tab.owner == ProcId(1) && tab.also == ProcSet(0b101));
-    let [high, low, show, _, take] = scenario.lines.as_slice() else {
-        return Err("two writes, two shows and a take stand there")?;
+    let [high, low, show, _, take, own, hear, settle] = scenario.lines.as_slice() else {
+        return Err("three writes, two shows, a take, a hear and a settle stand there")?;
     };
-    let high = parent_write(rt.alloc(), high)?;
+    let high = write(rt.alloc(), high)?;
     assert_eq!(rt;
         high.as_str(),
         "0 3 'a b' true 2 - - - - true 'browsers' 'é' - 4294967295 true true 4294967295 3"
     );
-    let low = parent_write(rt.alloc(), low)?;
+    let low = write(rt.alloc(), low)?;
     assert_eq!(rt;
         low.as_str(),
         "16 4294967295 '' false 0 - - - - false '' - false 0 false false 0 0"
     );
     assert!(rt; shows_display_mode(show));
     assert!(rt; matches!(take, Line::Step(Step::Take { p: ProcId(2) })));
+    let own = write(rt.alloc(), own)?;
+    assert_eq!(rt; own.as_str(), "2 7 - true - - - - - - - 'w' - - - - - 1");
+    assert!(rt; matches!(hear, Line::Step(Step::Hear { p: ProcId(2) })));
+    assert!(rt; matches!(settle, Line::Settle));
     Ok(())
 }
 
@@ -111,7 +126,7 @@ fn shows_display_mode(line: &Line) -> bool {
                     field: Field::DisplayMode,
                 }
         }
-        Line::Step(_) => false,
+        _ => false,
     }
 }
 
@@ -177,6 +192,9 @@ const STEPS: &str = r#"7
 {"do":"leave","at":0}
 {"do":"set","context":"c0.1","fields":{"Muted":true}}
 {"do":"set","at":0,"context":"c0.1","fields":{"Muted":true}}
+{"do":"set","at":2,"context":"c0.1","fields":{"Closed":true}}
+{"do":"set","at":"child","context":"c0.1","fields":{"Closed":true}}
+{"do":"set","at":0,"context":"c0.1","fields":{}}
 {"do":"set","at":"parent","fields":{"Muted":true}}
 {"do":"set","at":"parent","context":1,"fields":{"Muted":true}}
 {"do":"set","at":"parent","context":"c0.1","fields":{"Muted":true},"field":"Muted"}
@@ -191,6 +209,16 @@ const STEPS: &str = r#"7
 {"do":"take","at":-1}
 {"do":"take","at":"0"}
 {"do":"take","at":0,"context":"c0.1"}
+{"do":"hear","at":"parent"}
+{"do":"hear","from":0}
+{"do":"hear","at":0,"from":0}
+{"do":"hear","at":"parent","from":2}
+{"do":"hear","at":"parent","from":"0"}
+{"do":"hear","at":"parent","from":0.0}
+{"do":"hear","at":"parent","from":0,"process":0}
+{"do":"settle","at":"parent"}
+{"do":"settle","at":0}
+{"do":"Settle"}
 {"do":"show","context":"c0.1","field":"Muted"}
 {"do":"show","at":0,"context":"c0.1"}
 {"do":"show","at":0,"field":"Muted"}
@@ -256,6 +284,23 @@ const RIGHT_MEMBERS: &str = r#""Muted":false
 "SandboxFlags":4294967295
 "Name":"éééééééééééééééééééééééééééééééé""#;
 
+// Members that a process may not write.
+const PARENT_MEMBERS: &str = r#""Name":""
+"ExplicitActive":2
+"Muted":false
+"MessageManagerGroup":""
+"AllowContentRetargeting":true
+"SandboxFlags":0
+"IsInBFCache":false
+"Loading":false
+"DefaultLoadFlags":0
+"DisplayMode":4
+"FullZoom":100"#;
+
+const PROCESS_MEMBERS: &str = r#""Closed":false
+"UserAgentOverride":""
+"DisplayMode":0"#;
+
 // What comes behind the case is faulty too, and comes later.
 #[test]
 fn places(rt: HostRuntime) -> Result<(), Fail> {
@@ -268,6 +313,8 @@ fn places(rt: HostRuntime) -> Result<(), Fail> {
     let later_fields = r#"","fields":{"Muted":true}},7]}"#;
     let member = r#"{"version":1,"processes":["web"],"steps":[
         {"at":0,"do":"take"},{"do":"set","at":"parent","context":"c0.1","fields":{"Closed":true,"#;
+    let own = r#"{"version":1,"processes":["web"],"steps":[
+        {"do":"settle"},{"do":"set","at":0,"context":"c0.1","fields":{"Closed":true,"#;
     for (before, cases, after, place) in [
         ("", TOPS, "", 0),
         (tab, TABS, later_tab, 100_001),
@@ -276,6 +323,8 @@ fn places(rt: HostRuntime) -> Result<(), Fail> {
         (context, CONTEXTS, later_fields, 2),
         (member, MEMBERS, "}},7]}", 2),
         (member, RIGHT_MEMBERS, "}},7]}", 3),
+        (own, PARENT_MEMBERS, "}},7]}", 2),
+        (own, PROCESS_MEMBERS, "}},7]}", 3),
     ] {
         for text in cases.split('\n') {
             assert_eq!(rt;
@@ -312,7 +361,7 @@ fn limits(rt: HostRuntime) -> Result<(), Fail> {
         let letters = format!(in alloc; "\"{:w<len$}\"", "")?;
         let types = repeated(alloc, letters.as_str(), count)?;
         let opened = repeated(alloc, r#"{"owner":0}"#, tabs)?;
-        let lines = repeated(alloc, r#"{"at":0,"do":"take"}"#, steps)?;
+        let lines = repeated(alloc, r#"{"do":"settle"}"#, steps)?;
         let before = format!(in alloc;
             "{{\"version\":1,\"processes\":[{types}],\"tabs\":[{opened}]"
         )?;

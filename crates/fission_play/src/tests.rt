@@ -61,6 +61,28 @@ fn the_limit(rt: HostRuntime) -> Result<(), Fail> {
     Ok(())
 }
 
+// A scenario of so many settles.
+fn settles(alloc: Global, count: usize) -> Result<String, Fail> {
+    let mut text = String::from_str(
+        alloc,
+        r#"{"version":1,"processes":["web"],"steps":[{"do":"settle"}"#,
+    )?;
+    for _ in 1..count {
+        text.push_str(r#",{"do":"settle"}"#)?;
+    }
+    text.push_str("]}")?;
+    Ok(text)
+}
+
+#[test]
+fn too_many_steps(rt: HostRuntime) -> Result<(), Fail> {
+    let input = settles(rt.alloc(), 20_001)?;
+    let (status, text) = played(rt.alloc(), "play", input.as_str(), 0, 0)?;
+    assert_eq!(rt; status, 4);
+    assert_eq!(rt; text.as_slice(), "shape 20001\n".as_bytes());
+    Ok(())
+}
+
 // Where neither end can fail, no fault is answered: this is proved before it is run.
 #[test]
 fn sure_ends_never_fail(rt: HostRuntime) -> Result<(), Fail> {

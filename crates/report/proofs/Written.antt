@@ -1,10 +1,10 @@
 -- The lines of a report, as a loop over them passes them on.
-use Rattle.std.proofs.Common.{◌≡◌, ℕ, ◌+◌, ◌<◌, ◌≤◌, List, [], ◌∷◌, ◌++◌, length, drop, get_or, Result, Ok, Err, IsErr, Option, refl, sym, ap, subst, ◌∙◌, append_assoc}
+use Rattle.std.proofs.Common.{◌≡◌, ℕ, ◌+◌, ◌<◌, ◌≤◌, List, [], ◌∷◌, ◌++◌, length, drop, get_or, Result, Ok, Err, IsErr, Option, sym, ap, subst, ◌∙◌, append_assoc}
 use Rattle.std.specs.List.{AllByRecursion}
 use Rattle.std.proofs.lemmas.List.{drop_more, drop_all}
 use Rattle.edge.specs.Pieces.{Begins, BeginsTo}
 use Rattle.scenario.specs.declared.line.Line.{Line}
-use Rattle.scenario.specs.declared.line.Line.TheVariants as lines
+use Rattle.wire_msgs.specs.declared.config.Config.{Config}
 use Rattle.scenario.specs.Fits.{LineFits}
 use Rattle.model.specs.Next.{Run}
 use Rattle.report.specs.Passing.{Passes}
@@ -66,10 +66,6 @@ pub run_at_end-last : (i : ℕ) (r end : Run) (ls : List Line) → length ls ≤
 unfolding run_at_end
 run_at_end-last i r end ls le run = sym (ap (run_at_end r) (drop_all i ls le)) ∙ run
 
-run_after_line-config : (r : Run) (l : Line) → (run_after_line r l).config ≡ r.config
-run_after_line-config r (lines.Step step) = refl
-run_after_line-config r (lines.Show show) = refl
-
 -- a line fits, and so do those behind it
 pub fits-here : (i n : ℕ) (ls : List Line) (l : Line) → i < length ls → l ≡ get_or ls i l → AllByRecursion (LineFits n) (drop i ls) → LineFits n l
 fits-here i n ls l lt is fits =
@@ -77,10 +73,10 @@ fits-here i n ls l lt is fits =
     let here : AllByRecursion (LineFits n) (l ∷ drop (i + 1) ls) = subst P (drop_item i ls l lt is) fits in
     here.0
 
-pub fits-next : (i : ℕ) (r w : Run) (ls : List Line) (l : Line) → i < length ls → l ≡ get_or ls i l → w ≡ run_after_line r l
+pub fits-next : (i : ℕ) (r w : Run) (ls : List Line) (l : Line) → i < length ls → l ≡ get_or ls i l → w.config ≡ r.config
     → AllByRecursion (LineFits (length r.config.types)) (drop i ls) → AllByRecursion (LineFits (length w.config.types)) (drop (i + 1) ls)
-fits-next i r w ls l lt is next fits =
+fits-next i r w ls l lt is config fits =
     let P : List Line → Type 0 = λ x. AllByRecursion (LineFits (length r.config.types)) x in
     let here : AllByRecursion (LineFits (length r.config.types)) (l ∷ drop (i + 1) ls) = subst P (drop_item i ls l lt is) fits in
     let Q : ℕ → Type 0 = λ n. AllByRecursion (LineFits n) (drop (i + 1) ls) in
-    subst Q (sym (ap (λ (x : Run). length x.config.types) next ∙ ap (λ (c : _). length c.types) (run_after_line-config r l))) here.1
+    subst Q (sym (ap (λ (c : Config). length c.types) config)) here.1

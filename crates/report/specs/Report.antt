@@ -1,5 +1,5 @@
 -- The report of a scenario: its lines, each a function of the journal so far.
-use Rattle.std.specs.Prelude.{ℕ, ◌+◌, List, [], ◌∷◌, ◌++◌, length, Option, Some, None, codes}
+use Rattle.std.specs.Prelude.{ℕ, ◌+◌, ◌-◌, List, [], ◌∷◌, ◌++◌, length, Option, Some, None, codes}
 use Rattle.std.specs.Fmt.{decimal}
 use Rattle.fission_ids.specs.declared.context.ContextId.{ContextId}
 use Rattle.fission_ids.specs.Ids.{context_text}
@@ -20,6 +20,7 @@ use Rattle.scenario.specs.declared.line.Line.TheVariants as lines
 use Rattle.scenario.specs.declared.line.Scenario.{Scenario}
 use Rattle.model.specs.View.{view, parent_view}
 use Rattle.model.specs.Next.{Run, run_at_start, run_after, answer_of}
+use Rattle.model.specs.Settling.{settled}
 
 -- ---- the lines
 
@@ -55,6 +56,10 @@ show_text n who x f value =
     text_of_pieces (decimal n ∷ codes " " ∷ actor_text who ∷ codes " show " ∷ context_text x ∷
     codes " " ∷ name f ∷ codes " " ∷ value_text f value ∷ codes "\n" ∷ [])
 
+-- the n-th line: how many deliveries settling took
+unfoldable pub settle_text : ℕ → ℕ → List ℕ
+settle_text n count = text_of_pieces (decimal n ∷ codes " settle " ∷ decimal count ∷ codes "\n" ∷ [])
+
 -- the last line: the number of entries
 unfoldable pub end_text : ℕ → List ℕ
 end_text n = text_of_pieces (codes "end " ∷ decimal n ∷ codes "\n" ∷ [])
@@ -66,14 +71,20 @@ abbrev pub value_shown : Run → Actor → ContextId → Field → Option Value
 value_shown r actors.Parent x f = parent_view r.config x f r.journal
 value_shown r (actors.Process p) x f = view r.config p.0 x f r.journal
 
+-- how many entries settling adds
+abbrev pub deliveries : Run → ℕ
+deliveries r = length (settled r).journal - length r.journal
+
 -- the run after a line
 abbrev pub run_after_line : Run → Line → Run
 run_after_line r (lines.Step step) = run_after r step
+run_after_line r lines.Settle = settled r
 run_after_line r (lines.Show show) = r
 
 -- the n-th line
 abbrev pub line_text : ℕ → Run → Line → List ℕ
 line_text n r (lines.Step step) = entry_text (Some n) step (answer_of r.config r.journal step)
+line_text n r lines.Settle = settle_text n (deliveries r)
 line_text n r (lines.Show (One who x f)) = show_text n who x f (value_shown r who x f)
 
 -- the lines from the n-th on

@@ -12,7 +12,7 @@ mod writing;
 pub use fault::ReportFault;
 pub use lines::place_line;
 pub use playing::write_report;
-pub use writing::{entry, head, last, shown};
+pub use writing::{entry, head, last, settled, shown};
 
 #[cfg(test)]
 mod tests;

@@ -3,7 +3,7 @@
 ghost use Rattle.std.specs.Prelude.{◌≡◌, IfOk, string_bytes};
 ghost use Rattle.std.specs.Option.{option_copied};
 ghost use Rattle.report.specs.Report.{place_text, head_text, mark_text, entry_text, actor_text, show_text};
-ghost use Rattle.report.specs.Report.{end_text};
+ghost use Rattle.report.specs.Report.{settle_text, end_text};
 
 use field_table::{Field, Value};
 use fission_ids::{ContextId, OutOfMemory};
@@ -77,6 +77,14 @@ pub(crate) fn show_line(
     let name = field.name();
     let value = value_words(alloc, field, value)?;
     Ok(format!(in alloc; "{number} {who} show {context} {name} {value}\n")?)
+}
+
+// The line of a settle: how many deliveries it took.
+#[tactic(auto, unfolding(crate::specs::Report::settle_text))]
+pub(crate) fn settle_line(alloc: Global, number: u64, count: usize) -> Result<String, OutOfMemory>
+    ensures { IfOk result (λ s. string_bytes s ≡ settle_text number count) }
+{
+    Ok(format!(in alloc; "{number} settle {count}\n")?)
 }
 
 // The last line: how many entries the journal has.

@@ -1,24 +1,28 @@
 //! A scenario is played line by line, and each line is passed on before the next.
 
-ghost use Rattle.std.specs.Prelude.{◌≡◌, ◌≤◌, ◌++◌, length, IfOk, IsErrOf, OnOk, Some};
+ghost use Rattle.std.specs.Prelude.{◌≡◌, ◌<◌, ◌≤◌, ◌+◌, ◌*◌, ◌++◌, length, IfOk, IsErrOf, OnOk, Some};
 ghost use Rattle.std.specs.List.{AllByRecursion};
 ghost use Rattle.edge.specs.Causes.{Rose};
 ghost use Rattle.edge.specs.Memory.{written_of};
 ghost use Rattle.edge.specs.Pieces.{Writes};
 ghost use Rattle.journal.specs.Step.{StepFits};
+ghost use Rattle.model.specs.Laws.{RunFits};
 ghost use Rattle.model.specs.Next.{run_at_start, run_after, answer_of};
+ghost use Rattle.model.specs.Settling.{settled, weight};
 ghost use Rattle.wire_msgs.specs.Config.{ConfigFits};
+ghost use Rattle.world.specs.Stands.{most_entries};
 ghost use Rattle.scenario.specs.Fits.{LineFits, Fits};
 ghost use Rattle.report.specs.Passing.{Passes, CountsFault};
-ghost use Rattle.report.specs.Report.{entry_text, line_text, body_text, run_after_line, run_at_end};
-ghost use Rattle.report.specs.Report.{played_text, text};
+ghost use Rattle.report.specs.Report.{entry_text, settle_text, deliveries, line_text, body_text};
+ghost use Rattle.report.specs.Report.{run_after_line, run_at_end, played_text, text};
 
 use crate::fault::ReportFault;
 use crate::passing::{in_memory, no_pieces, pass_all, pass_piece};
-use crate::writing::{entry, head, last, shown};
+use crate::writing::{entry, head, last, settled, shown};
 use edge::{MemSink, Sink};
 use fission_ids::{Duplicate, OutOfMemory};
 use journal::Step;
+use model::{a_step_adds_little, settling_ends};
 use scenario::{Line, Scenario};
 use std::alloc::Global;
 use wire_msgs::Config;
@@ -32,7 +36,8 @@ fn play_step(
     step: &Step,
     pieces: &mut MemSink,
 ) -> Result<World, OutOfMemory>
-    requires { StepFits (length world.config.types) step.now }
+    requires fits { StepFits (length world.config.types) step.now }
+    requires room { length world.journal < most_entries }
     ensures world { IfOk result (λ w. w ≡ run_after world step.now) }
     ensures text { OnOk result (written_of pieces.new ≡ written_of pieces.old ++
         entry_text (Some number) step.now (answer_of world.config world.journal step.now)) }
@@ -47,6 +52,25 @@ fn play_step(
     Ok(world)
 }
 
+// The world after settling, whose line is gathered.
+fn play_settle(
+    alloc: Global,
+    world: World,
+    number: u64,
+    pieces: &mut MemSink,
+) -> Result<World, OutOfMemory>
+    requires { length world.journal + weight world < most_entries }
+    ensures world { IfOk result (λ w. w ≡ settled world) }
+    ensures text { OnOk result (written_of pieces.new ≡ written_of pieces.old ++
+        settle_text number (deliveries world)) }
+{
+    let before = world.journal().entries().len();
+    let world = world.settle()?;
+    let count = world.journal().entries().len() - before;
+    in_memory(settled(alloc, number, count, pieces))?;
+    Ok(world)
+}
+
 // The world after a line of the scenario, whose line of the report is gathered.
 fn play_line(
     alloc: Global,
@@ -55,13 +79,15 @@ fn play_line(
     line: &Line,
     pieces: &mut MemSink,
 ) -> Result<World, OutOfMemory>
-    requires { LineFits (length world.config.types) line.now }
+    requires fits { LineFits (length world.config.types) line.now }
+    requires room { length world.journal + weight world < most_entries }
     ensures world { IfOk result (λ w. w ≡ run_after_line world line.now) }
     ensures text { OnOk result (written_of pieces.new ≡ written_of pieces.old ++
         line_text number world line.now) }
 {
     match line {
         Line::Step(step) => play_step(alloc, world, number, step, pieces),
+        Line::Settle => play_settle(alloc, world, number, pieces),
         Line::Show(show) => {
             in_memory(shown(alloc, number, &world, *show, pieces))?;
             Ok(world)
@@ -78,7 +104,8 @@ fn pass_line<K: Sink>(
     pieces: &mut MemSink,
     sink: &mut K,
 ) -> Result<World, ReportFault>
-    requires { LineFits (length world.config.types) line.now }
+    requires fits { LineFits (length world.config.types) line.now }
+    requires room { length world.journal + weight world < most_entries }
     ensures world { IfOk result (λ w. w ≡ run_after_line world line.now) }
     ensures bytes { Passes (written_of pieces.old ++ line_text number world line.now)
         (written_of pieces.new) (K.written sink.old) (K.written sink.new) result }
@@ -89,7 +116,7 @@ fn pass_line<K: Sink>(
     Ok(world)
 }
 
-// The world after all the lines.
+// The world after all the lines. None adds more than 65 entries and what waits then.
 fn pass_lines<K: Sink>(
     alloc: Global,
     mut world: World,
@@ -97,12 +124,16 @@ fn pass_lines<K: Sink>(
     pieces: &mut MemSink,
     sink: &mut K,
 ) -> Result<World, ReportFault>
-    requires { AllByRecursion (LineFits (length world.config.types)) lines.now }
+    requires run { RunFits world }
+    requires lines { AllByRecursion (LineFits (length world.config.types)) lines.now }
+    requires room { length world.journal + weight world + 65 * length lines.now < most_entries }
     ensures world { IfOk result (λ w. w ≡ run_at_end world lines.now) }
     ensures bytes { Passes (written_of pieces.old ++ body_text 1 world lines.now)
         (written_of pieces.new) (K.written sink.old) (K.written sink.new) result }
     ensures faults { CountsFault (K.faults sink.old) (K.faults sink.new) result }
 {
+    settling_ends();
+    a_step_adds_little();
     let mut number = 1;
     for line in lines {
         world = pass_line(alloc, world, number, line, pieces, sink)?;
@@ -120,6 +151,7 @@ fn pass_played<K: Sink>(
     sink: &mut K,
 ) -> Result<(), ReportFault>
     requires config { ConfigFits config }
+    requires few { length lines.now ≤ 20000 }
     requires lines { AllByRecursion (LineFits (length config.types)) lines.now }
     ensures bytes { Passes (written_of pieces.old ++ played_text (run_at_start config) lines.now)
         (written_of pieces.new) (K.written sink.old) (K.written sink.new) result }

@@ -59,6 +59,14 @@ fn a_delivery_has_no_number(rt: HostRuntime) -> Result<(), Fail> {
 }
 
 #[test]
+fn a_settle_is_told_by_its_deliveries(rt: HostRuntime) -> Result<(), Fail> {
+    let mut sink = MemSink::new(rt.alloc(), Vec::new(rt.alloc()));
+    settled(rt.alloc(), 12, 4, &mut sink)?;
+    assert_eq!(rt; sink.bytes(), "12 settle 4\n".as_bytes());
+    Ok(())
+}
+
+#[test]
 fn words_for_a_person(rt: HostRuntime) -> Result<(), Fail> {
     let alloc = rt.alloc();
     for (fault, words) in [

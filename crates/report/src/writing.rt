@@ -1,16 +1,18 @@
 //! The lines of a report, each written by one call.
 
 ghost use Rattle.std.specs.Prelude.{◌≡◌, ℕ, List, length, string_bytes, IfOk};
+ghost use Rattle.std.specs.Option.{option_copied};
 ghost use Rattle.edge.specs.Pieces.{Writes};
 ghost use Rattle.scenario.specs.declared.line.Line.TheVariants as lines;
-ghost use Rattle.scenario.specs.Fits.{LineFits};
+ghost use Rattle.scenario.specs.Fits.{ActorFits, LineFits};
 ghost use Rattle.report.specs.Passing.{CountsFault};
-ghost use Rattle.report.specs.Report.{head_text, entry_text, line_text, end_text};
+ghost use Rattle.report.specs.Report.{head_text, entry_text, settle_text, value_shown, line_text, end_text};
 
 use crate::fault::ReportFault;
-use crate::lines::{end_line, entry_line, head_line, show_line};
+use crate::lines::{end_line, entry_line, head_line, settle_line, show_line};
 use edge::{Sink, write_all};
-use fission_ids::OutOfMemory;
+use field_table::{Field, Value};
+use fission_ids::{ContextId, OutOfMemory};
 use journal::Entry;
 use scenario::{Actor, Show};
 use std::alloc::Global;
@@ -52,6 +54,31 @@ pub fn entry<K: Sink>(
     write_line(entry_line(alloc, mark, entry), sink)
 }
 
+/// Writes the line of a settle: how many deliveries it took. After an error a front of it was written.
+/// `Failed` comes exactly where the sink failed.
+pub fn settled<K: Sink>(
+    alloc: Global,
+    number: u64,
+    count: usize,
+    sink: &mut K,
+) -> Result<(), ReportFault>
+    ensures bytes { Writes (K.written sink.old) (K.written sink.new) result (settle_text number count) }
+    ensures faults { CountsFault (K.faults sink.old) (K.faults sink.new) result }
+{
+    write_line(settle_line(alloc, number, count), sink)
+}
+
+// What one side shows of a field of a context.
+fn value_shown(world: &World, who: Actor, context: ContextId, field: Field) -> Option<&Value>
+    requires { ActorFits (length world.now.config.types) who }
+    ensures { option_copied result ≡ value_shown world.now who context field }
+{
+    match who {
+        Actor::Parent => world.parent().field(context, field),
+        Actor::Process(p) => world.content(p)?.field(context, field),
+    }
+}
+
 /// Writes what one side shows of a field of a context. After an error a front of the line was written.
 /// `Failed` comes exactly where the sink failed.
 pub fn shown<K: Sink>(
@@ -71,10 +98,7 @@ pub fn shown<K: Sink>(
         context,
         field,
     } = show;
-    let value = match who {
-        Actor::Parent => world.parent_field(context, field),
-        Actor::Process(p) => world.process_field(p, context, field),
-    };
+    let value = value_shown(world, who, context, field);
     write_line(show_line(alloc, number, who, context, field, value), sink)
 }
 

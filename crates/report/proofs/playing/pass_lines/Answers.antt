@@ -2,10 +2,14 @@ use Rattle.std.proofs.Common.{◌++◌, arith}
 use Rattle.edge.specs.Memory.{written_of}
 use Rattle.report.specs.Report.{body_text}
 use Rattle.report.proofs.Written.{line_begun, line_passed, lines_passed, run_at_end-next, run_at_end-last, fits-here, fits-next}
+use Rattle.report.proofs.Room.{line_goes_on}
 use Rattle.report.proofs.playing.pass_lines.Goals as goal
 
 pub pass_line-requires : goal.pass_line-requires
-pass_line-requires g c = fits-here c.loop-line.line-index _ c.args.lines.now c.line-item.result c.loop-line-test.true c.line-item.is c.loop-line.invariant.fits
+pass_line-requires g c = record {
+  fits = fits-here c.loop-line.line-index _ c.args.lines.now c.line-item.result c.loop-line-test.true c.line-item.is c.loop-line.invariant.fits;
+  room = omega (arith, c.loop-line.invariant.room, c.requires.room, c.loop-line-test.true);
+}
 
 pub returns-in_err-world-clause-bytes : goal.returns-in_err-world-clause-bytes
 returns-in_err-world-clause-bytes g c =
@@ -19,10 +23,14 @@ loop-line-preserved g c =
     let w = c.in_ok-world.world in
     let ls = c.args.lines.now in
     let next = c.in_ok-world.ensures.world in
+    let here = fits-here i _ ls c.line-item.result c.loop-line-test.true c.line-item.is c.loop-line.invariant.fits in
+    let on = line_goes_on c.settling_ends.ensures c.a_step_adds_little.ensures r w c.line-item.result c.loop-line.invariant.plays here next in
     record {
       so_far = line_passed c.loop-line.number i r w ls c.line-item.result (written_of c.loop-line.pieces) (written_of c.pass_line.new.pieces) _ _ _ _ c.loop-line-test.true c.line-item.is next c.loop-line.invariant.so_far c.in_ok-world.ensures.bytes;
       run = run_at_end-next i r w _ ls c.line-item.result c.loop-line-test.true c.line-item.is next c.loop-line.invariant.run;
-      fits = fits-next i r w ls c.line-item.result c.loop-line-test.true c.line-item.is next c.loop-line.invariant.fits;
+      plays = on.fits;
+      room = omega (arith, c.loop-line.invariant.room, on.room);
+      fits = fits-next i r w ls c.line-item.result c.loop-line-test.true c.line-item.is on.config c.loop-line.invariant.fits;
       number = omega (arith, c.loop-line.invariant.number);
       quiet = omega (arith, c.loop-line.invariant.quiet, c.in_ok-world.ensures.faults);
     }

@@ -1,10 +1,14 @@
-use Rattle.std.proofs.Common.{List, ◌++◌, length, sym, ap, subst, ◌∙◌}
+use Rattle.std.proofs.Common.{List, ◌≡◌, ◌++◌, ◌+◌, ◌*◌, ◌<◌, length, sym, ap, subst, ◌∙◌, arith}
 use Rattle.std.specs.List.{AllByRecursion}
 use Rattle.edge.specs.Memory.{written_of}
 use Rattle.scenario.specs.Fits.{LineFits}
+use Rattle.model.specs.Laws.{RunFits}
 use Rattle.model.specs.Next.{Run, run_at_start}
+use Rattle.model.specs.Settling.{weight}
 use Rattle.report.specs.Report.{body_text, end_text, played_text, run_at_end}
 use Rattle.report.proofs.Gathered.{unwritten, errs_in_first, begins_longer, appended}
+use Rattle.world.specs.Stands.{most_entries}
+use Rattle.report.proofs.Room.{start_fits, nothing_at_start}
 use Rattle.report.proofs.Written.{played_parts, end_of_run}
 use Rattle.report.proofs.playing.pass_played.Goals as goal
 
@@ -14,8 +18,15 @@ returns-in_err-world-clause-bytes g c =
 
 pub pass_lines-requires : goal.pass_lines-requires
 pass_lines-requires g c =
-    let P : Run → Type 0 = λ r. AllByRecursion (LineFits (length r.config.types)) c.args.lines.now in
-    subst P (sym c.in_ok-world.ensures) c.requires.lines
+    let ls = c.args.lines.now in
+    let start : c.in_ok-world.world ≡ run_at_start c.args.config = c.in_ok-world.ensures in
+    let P : Run → Type 0 = λ r. AllByRecursion (LineFits (length r.config.types)) ls in
+    let Q : Run → Type 0 = λ r. length r.journal + weight r + 65 * length ls < most_entries in
+    record {
+      run = subst (λ (r : Run). RunFits r) (sym start) (start_fits c.args.config c.requires.config);
+      lines = subst P (sym start) c.requires.lines;
+      room = subst Q (sym start) (omega (arith, nothing_at_start c.args.config, c.requires.few));
+    }
 
 pub returns-in_err-world-2-clause-bytes : goal.returns-in_err-world-2-clause-bytes
 returns-in_err-world-2-clause-bytes g c =

@@ -2,7 +2,8 @@
 """Measures a built player on long scenarios: measure.py PLAYER [RUNS]
 
 16 processes hold each tab. In the first kind of scenario every step is a set, so that each bundle waits at the end;
-in the second the first 70 of 100 steps are a set, then come takes and some shows. Prints the least processor time
+in the second the first 70 of 100 steps are a set, then come takes and some shows; in the third processes and the parent
+write in turn, and all is settled after every ten writes. Prints the least processor time
 (user and system) of the runs, 15 if no number is given, and the peak of resident memory. That is told from some 15 MB
 on, which this script takes itself.
 """
@@ -31,6 +32,13 @@ def mixed_step(i, tabs):
     if i % 10 < 8:
         return {"at": i % PROCESSES, "do": "take"}
     return {"at": i % PROCESSES, "do": "show", "context": f"c0.{i % tabs + 1}", "field": "Name"}
+
+
+def writers_step(i, tabs):
+    if i % 11 == 10:
+        return {"do": "settle"}
+    at = "parent" if i % 2 else i % PROCESSES
+    return {"at": at, "do": "set", "context": f"c0.{i % tabs + 1}", "fields": {"DisplayMode": i % 4}}
 
 
 def scenario(step, count, tabs):
@@ -68,11 +76,11 @@ def main():
         sys.exit("usage: measure.py PLAYER [RUNS]")
     player = sys.argv[1]
     runs = int(sys.argv[2]) if len(sys.argv) > 2 else 15
-    print("| steps | tabs | sets alone | most bundles wait long |")
-    print("|---|---|---|---|")
+    print("| steps | tabs | sets alone | most bundles wait long | writers, settled |")
+    print("|---|---|---|---|---|")
     for tabs in (1, 64):
         for count in (5000, 10000, 20000):
-            cells = [least(player, runs, step, count, tabs) for step in (set_step, mixed_step)]
+            cells = [least(player, runs, step, count, tabs) for step in (set_step, mixed_step, writers_step)]
             print(f"| {count:,} | {tabs} | {' | '.join(cells)} |", flush=True)
 
 

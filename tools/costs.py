@@ -1,12 +1,13 @@
 #!/usr/bin/env python3
 """Measures the crates under the cores, with the program in costs.rs, which it builds in a copy of the crates: costs.py [RUNS]
 
-Prints for each work the least processor time (user and system) of the runs, 15 if no number is given, and the peak of
-resident memory. That is told from some 15 MB on, which this script takes itself.
+Prints for each work the least and the median processor time (user and system) of the runs, 15 if no number is given, and
+the peak of resident memory. That is told from some 15 MB on, which this script takes itself.
 """
 
 import os
 import shutil
+import statistics
 import subprocess
 import sys
 import tempfile
@@ -53,7 +54,7 @@ def main():
         program = built(room)
         for work, words in WORK.items():
             times, peaks = zip(*(run(program, work) for _ in range(runs)))
-            print(f"{words}: {min(times):.0f} ms, {max(peaks):.0f} MB")
+            print(f"{words}: {min(times):.0f} ms, median {statistics.median(times):.0f} ms, {max(peaks):.0f} MB")
 
 
 main()

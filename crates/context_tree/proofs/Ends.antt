@@ -7,12 +7,13 @@ use Rattle.std.specs.Option.{option_map, option_map_or}
 use Rattle.fission_ids.specs.declared.context.ContextId.{ContextId}
 use Rattle.context_tree.specs.Node.{Node, is_at, is_in, is_child}
 use Rattle.context_tree.specs.Tree.{IsTree, node_of, subtree}
-use Rattle.context_tree.specs.Places.{IsRun, index_of}
+use Rattle.context_tree.specs.declared.tree.Place.{Place}
+use Rattle.context_tree.specs.Places.{IsRun, EndsRun, index_of, place_of}
 use Rattle.context_tree.proofs.Changes.{child_below}
 use Rattle.context_tree.proofs.Distinct.{both_fail}
 use Rattle.context_tree.proofs.Parts.{parts_of, subtree_is, position_is}
 use Rattle.context_tree.proofs.Runs.{is_deeper}
-use Rattle.context_tree.proofs.Spans.{pair_parts, run_is}
+use Rattle.context_tree.proofs.Spans.{has_place, run_ends, run_is}
 
 -- who is x or a child of x is in x
 at_or_child : (x : ContextId) (m : Node) → (is_at x m || is_child x m) ≡ true → is_in x m ≡ true
@@ -75,20 +76,15 @@ run_whole x ns t n e m last inside =
     subst (λ k. IsRun x ns (record { start = index_of x ns; end = k; depth = length n.above })) end r
 
 -- the run that ends with the list
-pub run_to_end : (x : ContextId) (ns : List Node) → IsTree ns → (start depth : ℕ)
-    → ◌≡◌ {A = Option (ℕ × ℕ)} (Some (start, depth)) (option_map (λ n. (index_of x ns, length n.above)) (node_of x ns))
+pub run_to_end : (x : ContextId) (ns : List Node) → IsTree ns → (p : Place) → Some p ≡ option_map place_of (node_of x ns)
     → option_map_or (λ n. is_at x n || is_child x n) (slice_get ns (length ns - 1)) false ≡ true
-    → IsRun x ns (record { start = start; end = length ns; depth = depth })
-run_to_end x ns t start depth h k = by (node_of x ns) (slice_get ns (length ns - 1)) refl refl h k
+    → EndsRun x ns (length ns) p.depth
+run_to_end x ns t p h k = by (slice_get ns (length ns - 1)) refl k
   where
-    by : (o p : Option Node) → node_of x ns ≡ o → slice_get ns (length ns - 1) ≡ p
-        → ◌≡◌ {A = Option (ℕ × ℕ)} (Some (start, depth)) (option_map (λ n. (index_of x ns, length n.above)) o)
-        → option_map_or (λ n. is_at x n || is_child x n) p false ≡ true
-        → IsRun x ns (record { start = start; end = length ns; depth = depth })
-    by None p e f h k = cc
-    by (Some n) None e f h k = cc
-    by (Some n) (Some m) e f h k =
-        let parts = pair_parts start (index_of x ns) depth (length n.above) h in
-        subst (λ i. IsRun x ns (record { start = i; end = length ns; depth = depth })) (sym parts.0)
-        (subst (λ d. IsRun x ns (record { start = index_of x ns; end = length ns; depth = d })) (sym parts.1)
-        (run_whole x ns t n e m f (at_or_child x m k)))
+    by : (o : Option Node) → slice_get ns (length ns - 1) ≡ o → option_map_or (λ n. is_at x n || is_child x n) o false ≡ true
+        → EndsRun x ns (length ns) p.depth
+    by None e k = cc
+    by (Some m) e k =
+        let own = has_place x ns p h in
+        subst (λ d. EndsRun x ns (length ns) d) (sym (ap (λ q. q.depth) own.is))
+        (run_ends x ns (index_of x ns) (length ns) (length own.node.above) (run_whole x ns t own.node own.found m e (at_or_child x m k)))

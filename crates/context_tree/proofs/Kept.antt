@@ -1,13 +1,11 @@
--- The entries that are kept, and the nodes that they stand for.
-use Rattle.std.proofs.Common.{◌≡◌, Bool, true, false, cond, List, [], ◌∷◌, map, refl, sym, ap, ◌∙◌, subst}
-use Rattle.std.specs.Prelude.{Some, zip}
-use Rattle.std.specs.Map.{keys_of, values_of, lookup}
-use Rattle.std.specs.Option.{option_map}
+-- What is kept, and the nodes that it stands for.
+use Rattle.std.proofs.Common.{◌≡◌, ℕ, List, [], ◌∷◌, map, refl, sym, ap, ◌∙◌, subst}
+use Rattle.std.specs.Prelude.{zip}
 use Rattle.fission_ids.specs.declared.context.ContextId.{ContextId}
-use Rattle.fission_ids.specs.Ids.{same_context}
-use Rattle.context_tree.specs.Node.{Node, line, is_at}
-use Rattle.context_tree.specs.Tree.{Hangs, IsTree, contexts, node_of}
-use Rattle.context_tree.specs.Places.{Entries, entry_of, place_of, node_behind, nodes_behind, nodes_of, KeepsTree}
+use Rattle.context_tree.specs.declared.tree.Place.{Place}
+use Rattle.context_tree.specs.Node.{Node, line}
+use Rattle.context_tree.specs.Tree.{Hangs, IsTree, contexts}
+use Rattle.context_tree.specs.Places.{entry_of, depth_of, node_behind, nodes_behind, nodes_of, Keeps, KeepsTree}
 
 -- the entries of nodes stand for these nodes
 pub nodes_entries : (before : List ContextId) (ns : List Node) → Hangs before ns → nodes_behind before (map entry_of ns) ≡ ns
@@ -17,43 +15,21 @@ nodes_entries before (n ∷ ns) h =
     let own : node_behind before (entry_of n) ≡ n = (λ j. record { context = n.context; above = sym h.0 j }) in
     ap (λ m. m ∷ nodes_behind (line m) (map entry_of ns)) own ∙ ap (λ l. n ∷ l) (nodes_entries (line n) ns h.1)
 
-pub nodes_of_entries : (ns : List Node) → IsTree ns → nodes_of (map entry_of ns) ≡ ns
-nodes_of_entries ns t = nodes_entries [] ns t.hangs
-
--- the entries of a tree are kept
-pub keeps_entries : (es : Entries) (ns : List Node) → es ≡ map entry_of ns → IsTree ns → KeepsTree es
-keeps_entries es ns e t =
-    let is : nodes_of es ≡ ns = ap nodes_of e ∙ nodes_of_entries ns t in
-    record { tied = e ∙ ap (map entry_of) (sym is); tree = subst IsTree (sym is) t }
-
--- and seen as the tree
-pub seen_entries : (es : Entries) (ns : List Node) → es ≡ map entry_of ns → IsTree ns → nodes_of es ≡ ns
-seen_entries es ns e t = ap nodes_of e ∙ nodes_of_entries ns t
-
--- what is kept of the nodes that are seen
-pub tied_to : (es : Entries) (ns : List Node) → KeepsTree es → nodes_of es ≡ ns → es ≡ map entry_of ns
-tied_to es ns k v = k.tied ∙ ap (map entry_of) v
-
-pub tree_seen : (es : Entries) (ns : List Node) → KeepsTree es → nodes_of es ≡ ns → IsTree ns
-tree_seen es ns k v = subst IsTree v k.tree
-
-pub keys_entries : (ns : List Node) → keys_of (map entry_of ns) ≡ contexts ns
-keys_entries [] = refl
-keys_entries (n ∷ ns) = ap (λ l. n.context ∷ l) (keys_entries ns)
-
-pub values_entries : (ns : List Node) → values_of (map entry_of ns) ≡ map place_of ns
-values_entries [] = refl
-values_entries (n ∷ ns) = ap (λ l. place_of n ∷ l) (values_entries ns)
-
-pub lookup_entries : (x : ContextId) (ns : List Node) → lookup (same_context x) (map entry_of ns) ≡ option_map place_of (node_of x ns)
-lookup_entries x [] = refl
-lookup_entries x (n ∷ ns) = by (is_at x n) (lookup_entries x ns)
-  where
-    by : (b : Bool) → lookup (same_context x) (map entry_of ns) ≡ option_map place_of (node_of x ns)
-        → cond b (Some (place_of n)) (lookup (same_context x) (map entry_of ns)) ≡ option_map place_of (cond b (Some n) (node_of x ns))
-    by true e = refl
-    by false e = e
-
-pub zip_entries : (ns : List Node) → zip (contexts ns) (map place_of ns) ≡ map entry_of ns
+pub zip_entries : (ns : List Node) → zip (contexts ns) (map depth_of ns) ≡ map entry_of ns
 zip_entries [] = refl
 zip_entries (n ∷ ns) = ap (λ l. entry_of n ∷ l) (zip_entries ns)
+
+-- what is kept of a tree is seen as the tree
+pub seen : (ns : List Node) (ids : List ContextId) (depths : List ℕ) → ids ≡ contexts ns → depths ≡ map depth_of ns → IsTree ns
+    → nodes_of ids depths ≡ ns
+seen ns ids depths e f t =
+    (λ j. nodes_behind [] (zip (e j) (f j))) ∙ ap (nodes_behind []) (zip_entries ns) ∙ nodes_entries [] ns t.hangs
+
+pub keeps : (ns : List Node) (ids : List ContextId) (depths : List ℕ) (places : List (ContextId × Place)) → Keeps ns ids depths places
+    → KeepsTree ids depths places
+keeps ns ids depths places k =
+    subst (λ ms. Keeps ms ids depths places) (sym (seen ns ids depths k.ids_tied k.depths_tied k.tree)) k
+
+pub kept : (ns : List Node) (ids : List ContextId) (depths : List ℕ) (places : List (ContextId × Place)) → KeepsTree ids depths places
+    → nodes_of ids depths ≡ ns → Keeps ns ids depths places
+kept ns ids depths places k v = subst (λ ms. Keeps ms ids depths places) v k

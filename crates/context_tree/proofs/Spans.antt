@@ -1,37 +1,35 @@
--- What the code finds by entries is what the definitions say of nodes.
-use Rattle.std.proofs.Common.{◌≡◌, ℕ, zero, suc, ◌+◌, ◌-◌, ◌≤◌, Bool, true, false, ◌&&◌, ◌==◌, cond, not, List, [], ◌∷◌, ◌++◌, length, map, take, drop, nat_lt, refl, sym, ap, ◌∙◌, subst, arith, length-append, append_assoc, add-one, is_some}
-use Rattle.std.specs.Prelude.{Some, None, Option, insert, zip, slice_get, slice_range, position, filter, unwrap_or}
+-- What the code finds by ids and depths is what the definitions say of nodes.
+use Rattle.std.proofs.Common.{◌≡◌, ℕ, zero, suc, ◌+◌, ◌-◌, ◌<◌, ◌≤◌, Bool, true, false, ◌&&◌, ◌||◌, ◌==◌, cond, not, List, [], ◌∷◌, ◌++◌, length, map, take, drop, nat_lt, refl, sym, ap, ◌∙◌, subst, arith, length-append, append_assoc, add-one, is_some}
+use Rattle.std.specs.Prelude.{Some, None, Option, insert, zip, slice_get, slice_range, filter, unwrap_or}
 use Rattle.std.specs.List.{prefix_len, position_or_len, remove_range}
-use Rattle.std.specs.Map.{keys_of, lookup}
-use Rattle.std.specs.Prelude.{remove}
+use Rattle.std.specs.Map.{lookup}
 use Rattle.std.specs.Option.{option_map, option_map_or}
 use Rattle.std.proofs.lemmas.Bool.Decides.{nat_tests}
-use Rattle.std.proofs.lemmas.List.{append-nil, map-append}
-use Rattle.std.proofs.lemmas.List.Edits.{remove-append_right}
+use Rattle.std.proofs.lemmas.List.{map-append}
 use Rattle.std.proofs.lemmas.List.Sums.{prefix_len-le-length}
-use Rattle.indexmap.specs.IndexMap.{move_index}
 use Rattle.std.proofs.Math.Seq.{drop-append_seam, take-append_seam, drop-append-add}
 use Rattle.fission_ids.specs.declared.context.ContextId.{ContextId}
 use Rattle.fission_ids.specs.Ids.{same_context}
 use Rattle.context_tree.specs.declared.tree.Place.{Place}
 use Rattle.context_tree.specs.Node.{Node, line, is_at, is_top, is_in, is_child}
 use Rattle.context_tree.specs.Tree.{Hangs, IsTree, contexts, node_of, is_held, subtree, children, is_less, place_in, line_above, is_missing, nodes_after}
-use Rattle.context_tree.specs.Places.{Entries, entry_of, place_of, IsRun, IsUnknown, index_of, depth_in, is_place_under}
+use Rattle.context_tree.specs.Places.{entry_of, depth_of, place_of, IsRun, IsUnknown, EndsRun, Keeps, index_of, depth_in}
 use Rattle.context_tree.proofs.Lists.{end_short, ends_with_places, filter_none, filter_not_none}
 use Rattle.context_tree.proofs.Runs.{line_behind, is_deeper}
 use Rattle.context_tree.proofs.Parts.{parts_of, subtree_is, without_is, position_is}
-use Rattle.context_tree.proofs.Changes.{unknown, child_below, no_children, new_node}
-use Rattle.context_tree.proofs.Ancestors.{found_is}
-use Rattle.context_tree.proofs.Kept.{lookup_entries, zip_entries}
+use Rattle.context_tree.proofs.Changes.{unknown, child_below, no_children, new_node, found_after, found_without, after_tree, without_tree}
+use Rattle.context_tree.proofs.Same.{same_swapped}
+use Rattle.std.specs.List.{list_any}
+use Rattle.std.proofs.lemmas.List.{length-map}
+use Rattle.std.proofs.lemmas.Option.{slice_get-map}
+use Rattle.std.specs.Prelude.{option_and_then}
+use Rattle.context_tree.specs.Tree.{without, parent_in, is_under}
+use Rattle.context_tree.specs.Node.{parent_of}
+use Rattle.context_tree.specs.declared.tree.Run.{Run}
+use Rattle.context_tree.proofs.Ancestors.{found_is, AllFound, all_found, under_subtree}
+use Rattle.context_tree.proofs.Kept.{zip_entries}
 
 module _ {X : Type 0} (p : X → Bool) where
-  pub position_some : (xs : List X) (i : ℕ) → Some i ≡ position p xs → i ≡ position_or_len p xs
-  position_some xs i h = by (nat_lt (position_or_len p xs) (length xs)) h
-    where
-      by : (b : Bool) → Some i ≡ cond b (Some (position_or_len p xs)) None → i ≡ position_or_len p xs
-      by true h = cc
-      by false h = cc
-
   pub prefix_of_map : {Y : Type 0} (f : Y → X) (ys : List Y) → prefix_len p (map f ys) ≡ prefix_len (λ y. p (f y)) ys
   prefix_of_map f [] = refl
   prefix_of_map f (y ∷ ys) = ap (λ k. cond (p (f y)) (1 + k) 0) (prefix_of_map f ys)
@@ -49,28 +47,28 @@ take_of_map f (suc k) (x ∷ xs) = ap (λ l. f x ∷ l) (take_of_map f k xs)
 pub range_of_map : {X Y : Type 0} (f : X → Y) (xs : List X) (i j : ℕ) → slice_range (map f xs) i j ≡ map f (slice_range xs i j)
 range_of_map f xs i j = ap (take (j - i)) (drop_of_map f i xs) ∙ take_of_map f (j - i) (drop i xs)
 
--- what an entry tells of its node
-pub found_entry : (x : ContextId) (ns : List Node) (i : ℕ) (p : Place) → Some i ≡ position (same_context x) (contexts ns)
-    → Some p ≡ option_map place_of (node_of x ns)
-    → ◌≡◌ {A = Option (ℕ × ℕ)} (Some (i, p.depth)) (option_map (λ n. (index_of x ns, length n.above)) (node_of x ns))
-found_entry x ns i p h k = by (node_of x ns) k
-  where
-    index : i ≡ index_of x ns
-    index = position_some (same_context x) (contexts ns) i h ∙ prefix_of_map (λ y. not (same_context x y)) (λ n. n.context) ns
+-- the index among the ids is that among the nodes
+pub index_is : (x : ContextId) (ns : List Node) → position_or_len (same_context x) (contexts ns) ≡ index_of x ns
+index_is x ns = prefix_of_map (λ y. not (same_context x y)) (λ n. n.context) ns
 
-    by : (o : Option Node) → Some p ≡ option_map place_of o
-        → ◌≡◌ {A = Option (ℕ × ℕ)} (Some (i, p.depth)) (option_map (λ n. (index_of x ns, length n.above)) o)
-    by None k = cc
-    by (Some n) k =
-        let own : p ≡ place_of n = cc in
-        (λ j. Some (index j, (own j).depth))
+-- who has a place is held, and its depth is told
+pub record HasPlace (x : ContextId) (ns : List Node) (p : Place) : Type 0 where
+  pub node : Node
+  pub found : node_of x ns ≡ Some node
+  pub is : p ≡ place_of node
 
-pub no_entry : (x : ContextId) (ns : List Node) → ◌≡◌ {A = Option Place} None (option_map place_of (node_of x ns))
-    → ◌≡◌ {A = Option (ℕ × ℕ)} None (option_map (λ n. (index_of x ns, length n.above)) (node_of x ns))
-no_entry x ns h = by (node_of x ns) h
+pub has_place : (x : ContextId) (ns : List Node) (p : Place) → Some p ≡ option_map place_of (node_of x ns) → HasPlace x ns p
+has_place x ns p h = by (node_of x ns) refl h
   where
-    by : (o : Option Node) → ◌≡◌ {A = Option Place} None (option_map place_of o)
-        → ◌≡◌ {A = Option (ℕ × ℕ)} None (option_map (λ n. (index_of x ns, length n.above)) o)
+    by : (o : Option Node) → node_of x ns ≡ o → Some p ≡ option_map place_of o → HasPlace x ns p
+    by None e h = cc
+    by (Some n) e h = record { node = n; found = e; is = cc }
+
+-- who has none isn't held
+pub no_place : (x : ContextId) (ns : List Node) → ◌≡◌ {A = Option Place} None (option_map place_of (node_of x ns)) → is_held x ns ≡ false
+no_place x ns h = by (node_of x ns) h
+  where
+    by : (o : Option Node) → ◌≡◌ {A = Option Place} None (option_map place_of o) → is_some o ≡ false
     by None h = refl
     by (Some n) h = cc
 
@@ -131,63 +129,35 @@ is_unknown x ns t h =
       childless = ap contexts (filter_none (is_child x) ns (no_children x ns none));
     }
 
--- equal pairs have equal parts
-pub pair_parts : (a b c d : ℕ) → ◌≡◌ {A = Option (ℕ × ℕ)} (Some (a, c)) (Some (b, d)) → (a ≡ b) × (c ≡ d)
-pair_parts a b c d h =
-    let p : Option (ℕ × ℕ) → ℕ × ℕ = λ o. unwrap_or o (a, c) in (ap (λ o. (p o).0) h, ap (λ o. (p o).1) h)
-
-pub run_found : (x : ContextId) (ns : List Node) → IsTree ns → (start depth deeper : ℕ)
-    → ◌≡◌ {A = Option (ℕ × ℕ)} (Some (start, depth)) (option_map (λ n. (index_of x ns, length n.above)) (node_of x ns))
-    → deeper ≡ prefix_len (λ p. nat_lt depth p.depth) (drop (start + 1) (map place_of ns))
-    → IsRun x ns (record { start = start; end = start + 1 + deeper; depth = depth })
-run_found x ns t start depth deeper h k = by (node_of x ns) refl h
-  where
-    by : (o : Option Node) → node_of x ns ≡ o
-        → ◌≡◌ {A = Option (ℕ × ℕ)} (Some (start, depth)) (option_map (λ n. (index_of x ns, length n.above)) o)
-        → IsRun x ns (record { start = start; end = start + 1 + deeper; depth = depth })
-    by None e h = cc
-    by (Some n) e h =
-        let parts = pair_parts start (index_of x ns) depth (length n.above) h in
-        let first : start ≡ index_of x ns = parts.0 in
-        let second : depth ≡ length n.above = parts.1 in
-        let count : deeper ≡ prefix_len (is_deeper (length n.above)) (drop (index_of x ns + 1) ns) =
-        k ∙ (λ j. prefix_len (λ p. nat_lt (second j) p.depth) (drop (first j + 1) (map place_of ns)))
-        ∙ ap (prefix_len (λ p. nat_lt (length n.above) p.depth)) (drop_of_map place_of (index_of x ns + 1) ns)
-        ∙ prefix_of_map (λ p. nat_lt (length n.above) p.depth) place_of (drop (index_of x ns + 1) ns) in
-        subst (λ i. IsRun x ns (record { start = i; end = i + 1 + deeper; depth = depth })) (sym first)
-        (subst (λ d. IsRun x ns (record { start = index_of x ns; end = index_of x ns + 1 + deeper; depth = d })) (sym second)
-        (run_is x ns t n e deeper count))
+pub run_found : (x : ContextId) (ns : List Node) → IsTree ns → (p : Place) → Some p ≡ option_map place_of (node_of x ns)
+    → (start deeper : ℕ) → start ≡ index_of x ns → deeper ≡ prefix_len (nat_lt p.depth) (drop (start + 1) (map depth_of ns))
+    → IsRun x ns (record { start = start; end = start + 1 + deeper; depth = p.depth })
+run_found x ns t p h start deeper first k =
+    let own = has_place x ns p h in
+    let n : Node = own.node in
+    let second : p.depth ≡ length n.above = ap (λ q. q.depth) own.is in
+    let count : deeper ≡ prefix_len (is_deeper (length n.above)) (drop (index_of x ns + 1) ns) =
+    k ∙ (λ j. prefix_len (nat_lt (second j)) (drop (first j + 1) (map depth_of ns)))
+    ∙ ap (prefix_len (nat_lt (length n.above))) (drop_of_map depth_of (index_of x ns + 1) ns)
+    ∙ prefix_of_map (nat_lt (length n.above)) depth_of (drop (index_of x ns + 1) ns) in
+    subst (λ i. IsRun x ns (record { start = i; end = i + 1 + deeper; depth = p.depth })) (sym first)
+    (subst (λ d. IsRun x ns (record { start = index_of x ns; end = index_of x ns + 1 + deeper; depth = d })) (sym second)
+    (run_is x ns t n own.found deeper count))
 
 -- an id that is found stands within the nodes
-pub index_within : (x : ContextId) (ns : List Node) (start depth : ℕ)
-    → ◌≡◌ {A = Option (ℕ × ℕ)} (Some (start, depth)) (option_map (λ n. (index_of x ns, length n.above)) (node_of x ns))
-    → start + 1 ≤ length ns
-index_within x ns start depth h = by (node_of x ns) refl h
+pub index_within : (x : ContextId) (ns : List Node) (n : Node) → node_of x ns ≡ Some n → index_of x ns < length ns
+index_within x [] n e = cc
+index_within x (m ∷ ms) n e = step (is_at x m) e (index_within x ms n)
   where
-    within : (ms : List Node) (n : Node) → node_of x ms ≡ Some n → index_of x ms + 1 ≤ length ms
-    within [] n e = cc
-    within (m ∷ ms) n e = step (is_at x m) e (within ms n)
-      where
-        step : (b : Bool) → cond b (Some m) (node_of x ms) ≡ Some n → (node_of x ms ≡ Some n → index_of x ms + 1 ≤ length ms)
-            → cond (not b) (1 + index_of x ms) 0 + 1 ≤ suc (length ms)
-        step true e more = omega arith
-        step false e more = let h = more e in omega (arith, h)
+    step : (b : Bool) → cond b (Some m) (node_of x ms) ≡ Some n → (node_of x ms ≡ Some n → index_of x ms < length ms)
+        → cond (not b) (1 + index_of x ms) 0 < suc (length ms)
+    step true e more = omega arith
+    step false e more = let h = more e in omega (arith, h)
 
-    by : (o : Option Node) → node_of x ns ≡ o
-        → ◌≡◌ {A = Option (ℕ × ℕ)} (Some (start, depth)) (option_map (λ n. (index_of x ns, length n.above)) o) → start + 1 ≤ length ns
-    by None e h = cc
-    by (Some n) e h =
-        let first : start ≡ index_of x ns = (pair_parts start (index_of x ns) depth (length n.above) h).0 in
-        subst (λ i. i + 1 ≤ length ns) (sym first) (within ns n e)
-
--- who isn't found isn't held
-pub held_by_index : (x : ContextId) (ns : List Node)
-    → ◌≡◌ {A = Option (ℕ × ℕ)} None (option_map (λ n. (index_of x ns, length n.above)) (node_of x ns)) → is_held x ns ≡ false
-held_by_index x ns h = by (node_of x ns) h
-  where
-    by : (o : Option Node) → ◌≡◌ {A = Option (ℕ × ℕ)} None (option_map (λ n. (index_of x ns, length n.above)) o) → is_some o ≡ false
-    by None h = refl
-    by (Some n) h = cc
+-- what a run tells of its end
+pub run_ends : (x : ContextId) (ns : List Node) (start end depth : ℕ) → IsRun x ns (record { start = start; end = end; depth = depth })
+    → EndsRun x ns end depth
+run_ends x ns start end depth r = record { held = r.held; behind = r.behind; above = r.depth; shallow = r.shallow }
 
 -- the depth of a place and whether it is at the top
 same_top : (n : Node) → (length n.above == 0) ≡ is_top n
@@ -198,10 +168,10 @@ same_top n = by n.above
     by (c ∷ l) = let more : (suc (length l) == 0) ≡ false = grind (arith, nat_tests) in more
 
 pub top_place_is : (x : ContextId) (ns : List Node)
-    → position_or_len (λ e. e.1.depth == 0 && is_less x e.0) (zip (contexts ns) (map place_of ns)) ≡ place_in None x ns
+    → position_or_len (λ e. e.1 == 0 && is_less x e.0) (zip (contexts ns) (map depth_of ns)) ≡ place_in None x ns
 top_place_is x ns =
-    ap (position_or_len (λ e. e.1.depth == 0 && is_less x e.0)) (zip_entries ns)
-    ∙ prefix_of_map (λ e. not (e.1.depth == 0 && is_less x e.0)) entry_of ns
+    ap (position_or_len (λ e. e.1 == 0 && is_less x e.0)) (zip_entries ns)
+    ∙ prefix_of_map (λ e. not (e.1 == 0 && is_less x e.0)) entry_of ns
     ∙ (λ j. prefix_len (λ n. not (same_top n j && is_less x n.context)) ns)
 
 -- how deep a child of p is
@@ -212,20 +182,64 @@ depth_below p ns h = by (node_of p ns) h
     by None h = cc
     by (Some n) h = add-one (length n.above)
 
--- the children among a run
-pub children_of_run : (x : ContextId) (ns : List Node)
-    → map (λ e. e.0) (filter (λ e. is_place_under x e.1) (zip (contexts ns) (map place_of ns))) ≡ children x ns
-children_of_run x ns = ap (λ es. map (λ e. e.0) (filter (λ e. is_place_under x e.1) es)) (zip_entries ns) ∙ kept ns
+-- whether x is the parent of the context c
+abbrev pub has_parent : List Node → ContextId → ContextId → Bool
+has_parent ns x c = option_map_or (same_context x) (parent_in c ns) false
+
+-- of one that is found by its id, the parent by the id is its parent
+pub parent_of_found : (ns : List Node) (x : ContextId) (n : Node) → node_of n.context ns ≡ Some n → has_parent ns x n.context ≡ is_child x n
+parent_of_found ns x n e = ap (λ o. option_map_or (same_context x) (option_and_then parent_of o) false) e
+
+-- the children among nodes that are found by their ids
+children_found : (ns : List Node) (x : ContextId) (ms : List Node) → AllFound ns ms
+    → filter (has_parent ns x) (contexts ms) ≡ children x ms
+children_found ns x [] f = refl
+children_found ns x (m ∷ ms) f =
+    (λ j. cond (parent_of_found ns x m f.0 j) (m.context ∷ children_found ns x ms f.1 j) (children_found ns x ms f.1 j))
+    ∙ by (is_child x m)
   where
-    kept : (ms : List Node) → map (λ e. e.0) (filter (λ e. is_place_under x e.1) (map entry_of ms)) ≡ children x ms
-    kept [] = refl
-    kept (m ∷ ms) = by (is_child x m) (kept ms)
-      where
-        by : (b : Bool) → map (λ e. e.0) (filter (λ e. is_place_under x e.1) (map entry_of ms)) ≡ children x ms
-            → map (λ e. e.0) (cond b (entry_of m ∷ filter (λ e. is_place_under x e.1) (map entry_of ms)) (filter (λ e. is_place_under x e.1) (map entry_of ms)))
-            ≡ contexts (cond b (m ∷ filter (is_child x) ms) (filter (is_child x) ms))
-        by true e = ap (λ l. m.context ∷ l) e
-        by false e = e
+    by : (b : Bool) → cond b (m.context ∷ children x ms) (children x ms) ≡ contexts (cond b (m ∷ filter (is_child x) ms) (filter (is_child x) ms))
+    by true = refl
+    by false = refl
+
+found_among : (ns : List Node) (k : ℕ) (ms : List Node) → AllFound ns ms → AllFound ns (drop k ms)
+found_among ns zero ms f = f
+found_among ns (suc k) [] f = tt
+found_among ns (suc k) (m ∷ ms) f = found_among ns k ms f.1
+
+found_first : (ns : List Node) (k : ℕ) (ms : List Node) → AllFound ns ms → AllFound ns (take k ms)
+found_first ns zero ms f = tt
+found_first ns (suc k) [] f = tt
+found_first ns (suc k) (m ∷ ms) f = (f.0, found_first ns k ms f.1)
+
+-- the children among a run
+pub children_of_run : (ns : List Node) → IsTree ns → (x : ContextId) (i j : ℕ)
+    → filter (has_parent ns x) (slice_range (contexts ns) i j) ≡ children x (slice_range ns i j)
+children_of_run ns t x i j =
+    ap (filter (has_parent ns x)) (range_of_map (λ n. n.context) ns i j)
+    ∙ children_found ns x (slice_range ns i j) (found_first ns (j - i) (drop i ns) (found_among ns i ns (all_found ns t.distinct)))
+
+found_at : (ns : List Node) (ms : List Node) → AllFound ns ms → (k : ℕ) (n : Node) → slice_get ms k ≡ Some n → node_of n.context ns ≡ Some n
+found_at ns [] f k n e = cc
+found_at ns (m ∷ ms) f zero n e = let same : m ≡ n = cc in subst (λ q. node_of q.context ns ≡ Some q) same f.0
+found_at ns (m ∷ ms) f (suc k) n e = found_at ns ms f.1 k n e
+
+-- whether the last id is directly in x
+pub last_child : (ns : List Node) → IsTree ns → (x c : ContextId) → Some c ≡ slice_get (contexts ns) (length (contexts ns) - 1)
+    → same_context x c ≡ false
+    → has_parent ns x c ≡ option_map_or (λ n. is_at x n || is_child x n) (slice_get ns (length ns - 1)) false
+last_child ns t x c h away = by (slice_get ns (length ns - 1)) refl at
+  where
+    at : Some c ≡ option_map (λ n. n.context) (slice_get ns (length ns - 1))
+    at = h ∙ ap (λ k. slice_get (contexts ns) (k - 1)) (length-map ns (λ n. n.context)) ∙ slice_get-map (λ n. n.context) ns (length ns - 1)
+
+    by : (o : Option Node) → slice_get ns (length ns - 1) ≡ o → Some c ≡ option_map (λ n. n.context) o
+        → has_parent ns x c ≡ option_map_or (λ n. is_at x n || is_child x n) o false
+    by None e g = cc
+    by (Some n) e g =
+        let same : c ≡ n.context = cc in
+        ap (has_parent ns x) same ∙ parent_of_found ns x n (found_at ns ns (all_found ns t.distinct) (length ns - 1) n e)
+        ∙ sym (ap (λ b. b || is_child x n) (ap (same_context x) (sym same) ∙ away))
 
 -- all children are in the subtree
 pub children_in_subtree : (x : ContextId) (ns : List Node) → children x (subtree x ns) ≡ children x ns
@@ -265,60 +279,61 @@ place_within (Some p) x ns t h = by (node_of p ns) refl h
         let r = run_is p ns t n e (prefix_len (is_deeper (length n.above)) (drop (index_of p ns + 1) ns)) refl in
         subst (λ k. k ≤ length ns) r.behind r.within
 
--- an entry put in
-pub put_entry : (ns : List Node) (i : ℕ) (n : Node) → insert (map entry_of ns) i (entry_of n) ≡ map entry_of (insert ns i n)
-put_entry ns i n =
-    ap (λ l. l ++ entry_of n ∷ drop i (map entry_of ns)) (take_of_map entry_of i ns)
-    ∙ ap (λ l. map entry_of (take i ns) ++ entry_of n ∷ l) (drop_of_map entry_of i ns)
-    ∙ sym (map-append entry_of (take i ns) (n ∷ drop i ns))
+-- what is kept, with one put in
+put_mapped : {X : Type 0} (f : Node → X) (ns : List Node) (i : ℕ) (n : Node) → insert (map f ns) i (f n) ≡ map f (insert ns i n)
+put_mapped f ns i n =
+    ap (λ l. l ++ f n ∷ drop i (map f ns)) (take_of_map f i ns)
+    ∙ ap (λ l. map f (take i ns) ++ f n ∷ l) (drop_of_map f i ns)
+    ∙ sym (map-append f (take i ns) (n ∷ drop i ns))
 
--- a run taken out
-pub cut_entries : (ns : List Node) (i j : ℕ) → remove_range (map entry_of ns) i j ≡ map entry_of (remove_range ns i j)
-cut_entries ns i j =
-    ap (λ l. l ++ drop j (map entry_of ns)) (take_of_map entry_of i ns)
-    ∙ ap (λ l. map entry_of (take i ns) ++ l) (drop_of_map entry_of j ns)
-    ∙ sym (map-append entry_of (take i ns) (drop j ns))
+-- and with a run taken out
+cut_mapped : {X : Type 0} (f : Node → X) (ns : List Node) (i j : ℕ) → remove_range (map f ns) i j ≡ map f (remove_range ns i j)
+cut_mapped f ns i j =
+    ap (λ l. l ++ drop j (map f ns)) (take_of_map f i ns)
+    ∙ ap (λ l. map f (take i ns) ++ l) (drop_of_map f j ns)
+    ∙ sym (map-append f (take i ns) (drop j ns))
 
--- where a key isn't found, its position is the end
-pub absent_last : {V : Type 0} (test : ContextId → Bool) (es : List (ContextId × V)) → lookup test es ≡ None → position_or_len test (keys_of es) ≡ length es
-absent_last test [] h = refl
-absent_last test (e ∷ es) h = by (test e.0) h (absent_last test es)
+-- what is kept with a context attached is kept of the tree with it
+pub keeps_attached : (ns : List Node) (ids : List ContextId) (depths : List ℕ) (places : List (ContextId × Place)) → Keeps ns ids depths places
+    → (parent : Option ContextId) (x : ContextId) (at depth : ℕ) → is_held x ns ≡ false → is_missing parent ns ≡ false
+    → at ≡ place_in parent x ns → depth ≡ length (line_above parent ns)
+    → (ids2 : List ContextId) (depths2 : List ℕ) (places2 : List (ContextId × Place))
+    → ids2 ≡ insert ids at x → depths2 ≡ insert depths at depth
+    → ((y : ContextId) → lookup (same_context y) places2
+    ≡ cond (same_context x y) (Some (record { parent = parent; depth = depth })) (lookup (same_context y) places))
+    → Keeps (nodes_after parent x ns) ids2 depths2 places2
+keeps_attached ns ids depths places k parent x at depth free there place deep ids2 depths2 places2 i d p = record {
+  ids_tied = i ∙ (λ j. insert (k.ids_tied j) (place j) x) ∙ put_mapped (λ n. n.context) ns (place_in parent x ns) (new_node parent x ns);
+  depths_tied = d ∙ (λ j. insert (k.depths_tied j) (place j) (deep j)) ∙ put_mapped depth_of ns (place_in parent x ns) (new_node parent x ns);
+  by_key = λ y. p y ∙ (λ j. cond (same_swapped x y j) (Some (new_place j)) (k.by_key y j)) ∙ by y (same_context y x)
+      ∙ sym (ap (option_map place_of) (found_after ns k.tree parent x y free there));
+  tree = after_tree ns k.tree parent x free there;
+}
   where
-    by : (b : Bool) → cond b (Some e.1) (lookup test es) ≡ None → (lookup test es ≡ None → position_or_len test (keys_of es) ≡ length es)
-        → cond (not b) (1 + position_or_len test (keys_of es)) 0 ≡ suc (length es)
-    by true h more = cc
-    by false h more = let k = more h in omega (arith, k)
+    new_place : ◌≡◌ {A = Place} (record { parent = parent; depth = depth }) (place_of (new_node parent x ns))
+    new_place = (λ j. record { parent = sym (nearest_above parent ns there) j; depth = deep j })
 
--- the last item moved to another place
-pub move_last : {X : Type 0} (xs : List X) (x : X) (i : ℕ) → i ≤ length xs → move_index (xs ++ x ∷ []) (length xs) i ≡ insert xs i x
-move_last xs x i h =
-    ap (λ o. option_map_or (λ y. insert (remove (xs ++ x ∷ []) (length xs)) i y) o (xs ++ x ∷ [])) (at_last xs)
-    ∙ ap (λ l. insert l i x) rest
+    by : (y : ContextId) (b : Bool) → cond b (Some (place_of (new_node parent x ns))) (option_map place_of (node_of y ns))
+        ≡ option_map place_of (cond b (Some (new_node parent x ns)) (node_of y ns))
+    by y true = refl
+    by y false = refl
+
+-- and without one
+pub keeps_without : (ns : List Node) (ids : List ContextId) (depths : List ℕ) (places : List (ContextId × Place)) → Keeps ns ids depths places
+    → (x : ContextId) (r : Run) → IsRun x ns r → (gone : List ContextId) → gone ≡ contexts (subtree x ns)
+    → (ids2 : List ContextId) (depths2 : List ℕ) (places2 : List (ContextId × Place))
+    → ids2 ≡ remove_range ids r.start r.end → depths2 ≡ remove_range depths r.start r.end
+    → ((y : ContextId) → lookup (same_context y) places2 ≡ cond (list_any (same_context y) gone) None (lookup (same_context y) places))
+    → Keeps (without x ns) ids2 depths2 places2
+keeps_without ns ids depths places k x r run gone g ids2 depths2 places2 i d p = record {
+  ids_tied = i ∙ ap (λ l. remove_range l r.start r.end) k.ids_tied ∙ cut_mapped (λ n. n.context) ns r.start r.end ∙ ap contexts run.outside;
+  depths_tied = d ∙ ap (λ l. remove_range l r.start r.end) k.depths_tied ∙ cut_mapped depth_of ns r.start r.end ∙ ap (map depth_of) run.outside;
+  by_key = λ y. p y
+      ∙ (λ j. cond ((ap (list_any (same_context y)) g ∙ under_subtree y x ns k.tree.distinct) j) None (k.by_key y j)) ∙ by y (is_under y x ns)
+      ∙ sym (ap (option_map place_of) (found_without x y ns k.tree.distinct));
+  tree = without_tree ns k.tree x;
+}
   where
-    at_last : (ys : List _) → slice_get (ys ++ x ∷ []) (length ys) ≡ Some x
-    at_last [] = refl
-    at_last (y ∷ ys) = at_last ys
-
-    none : length xs - length xs ≡ 0
-    none = omega arith
-
-    rest : remove (xs ++ x ∷ []) (length xs) ≡ xs
-    rest = remove-append_right xs (x ∷ []) (length xs) (length xs) refl (omega arith)
-        ∙ ap (λ k. xs ++ remove (x ∷ []) k) none ∙ append-nil xs
-
--- a context that isn't held has no entry
-pub absent_entry : (x : ContextId) (ns : List Node) → is_held x ns ≡ false → lookup (same_context x) (map entry_of ns) ≡ None
-absent_entry x ns h = lookup_entries x ns ∙ by (node_of x ns) h
-  where
-    by : (o : Option Node) → is_some o ≡ false → option_map place_of o ≡ None
-    by None h = refl
-    by (Some n) h = cc
-
--- the entries with one more, where a context goes
-pub attached_entries : (es : Entries) (ns : List Node) (parent : Option ContextId) (x : ContextId) (at depth : ℕ) → es ≡ map entry_of ns
-    → is_missing parent ns ≡ false → at ≡ place_in parent x ns → depth ≡ length (line_above parent ns)
-    → insert es at (x, record { parent = parent; depth = depth }) ≡ map entry_of (nodes_after parent x ns)
-attached_entries es ns parent x at depth tied there place deep =
-    let entry : ◌≡◌ {A = ContextId × Place} (x, record { parent = parent; depth = depth }) (entry_of (new_node parent x ns)) =
-    (λ j. (x, record { parent = sym (nearest_above parent ns there) j; depth = deep j })) in
-    (λ j. insert (tied j) (place j) (entry j)) ∙ put_entry ns (place_in parent x ns) (new_node parent x ns)
+    by : (y : ContextId) (b : Bool) → cond b None (option_map place_of (node_of y ns)) ≡ option_map place_of (cond b None (node_of y ns))
+    by y true = refl
+    by y false = refl

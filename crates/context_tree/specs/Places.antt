@@ -1,48 +1,52 @@
--- The entries that the code keeps for a tree.
-use Rattle.std.specs.Prelude.{◌≡◌, ℕ, ◌+◌, ◌<◌, ◌≤◌, Bool, true, false, List, [], ◌∷◌, length, map}
+-- What the code keeps for a tree.
+use Rattle.std.specs.Prelude.{◌≡◌, ℕ, ◌+◌, ◌<◌, ◌≤◌, true, false, List, [], ◌∷◌, length, map, zip}
 use Rattle.std.specs.Prelude.{slice_range}
 use Rattle.std.specs.List.{position_or_len, remove_range}
-use Rattle.std.specs.Option.{option_map_or}
+use Rattle.std.specs.Map.{lookup}
+use Rattle.std.specs.Option.{option_map, option_map_or}
 use Rattle.fission_ids.specs.declared.context.ContextId.{ContextId}
 use Rattle.fission_ids.specs.Ids.{same_context}
 use Rattle.context_tree.specs.declared.tree.Place.{Place}
 use Rattle.context_tree.specs.declared.tree.Run.{Run}
 use Rattle.context_tree.specs.Node.{Node, line, parent_of, is_at}
-use Rattle.context_tree.specs.Tree.{outermost, IsTree, node_of, is_held, subtree, without, children}
+use Rattle.context_tree.specs.Tree.{outermost, IsTree, contexts, node_of, is_held, subtree, without, children}
 
--- the entries of a tree, by id
-abbrev pub Entries : Type 0
-Entries = List (ContextId × Place)
+-- how many are above a node
+abbrev pub depth_of : Node → ℕ
+depth_of n = length n.above
 
--- where a node stands
+-- where a node hangs
 abbrev pub place_of : Node → Place
-place_of n = record { parent = parent_of n; depth = length n.above }
+place_of n = record { parent = parent_of n; depth = depth_of n }
 
--- whether a place has x as its parent
-abbrev pub is_place_under : ContextId → Place → Bool
-is_place_under x p = option_map_or (same_context x) p.parent false
+-- an id with its depth, of the node
+abbrev pub entry_of : Node → ContextId × ℕ
+entry_of n = (n.context, depth_of n)
 
--- what is kept of a node
-abbrev pub entry_of : Node → ContextId × Place
-entry_of n = (n.context, place_of n)
+-- the node of an id with its depth that stands behind a node with this line
+abbrev pub node_behind : List ContextId → ContextId × ℕ → Node
+node_behind before e = record { context = e.0; above = outermost e.1 before }
 
--- the node of an entry that stands behind a node with this line
-abbrev pub node_behind : List ContextId → ContextId × Place → Node
-node_behind before e = record { context = e.0; above = outermost e.1.depth before }
-
--- the nodes of the entries that stand behind a node with this line
-unfoldable pub nodes_behind : List ContextId → Entries → List Node
+-- the nodes of ids with depths that stand behind a node with this line
+unfoldable pub nodes_behind : List ContextId → List (ContextId × ℕ) → List Node
 nodes_behind before [] = []
 nodes_behind before (e ∷ es) = node_behind before e ∷ nodes_behind (line (node_behind before e)) es
 
--- the nodes of the entries of a tree
-abbrev pub nodes_of : Entries → List Node
-nodes_of es = nodes_behind [] es
+-- the nodes of ids and depths in pre-order
+abbrev pub nodes_of : List ContextId → List ℕ → List Node
+nodes_of ids depths = nodes_behind [] (zip ids depths)
 
--- the entries are those of a tree
-pub record KeepsTree (es : Entries) : Type 0 where
-  pub tied : es ≡ map entry_of (nodes_of es)
-  pub tree : IsTree (nodes_of es)
+-- the ids and depths are those of these nodes, which are a tree, and by key is kept where each hangs
+pub record Keeps (ns : List Node) (ids : List ContextId) (depths : List ℕ)
+    (places : List (ContextId × Place)) : Type 0 where
+  pub ids_tied : ids ≡ contexts ns
+  pub depths_tied : depths ≡ map depth_of ns
+  pub by_key : (x : ContextId) → lookup (same_context x) places ≡ option_map place_of (node_of x ns)
+  pub tree : IsTree ns
+
+-- what is kept is that of a tree
+abbrev pub KeepsTree : List ContextId → List ℕ → List (ContextId × Place) → Type 0
+KeepsTree ids depths places = Keeps (nodes_of ids depths) ids depths places
 
 -- how many nodes stand before that of x
 abbrev pub index_of : ContextId → List Node → ℕ
@@ -69,3 +73,10 @@ pub record IsRun (x : ContextId) (ns : List Node) (r : Run) : Type 0 where
   pub behind : r.end ≡ index_of x ns + length (subtree x ns)
   pub depth : r.depth ≡ depth_in x ns
   pub shallow : r.depth < r.end
+
+-- the run of x ends here, and so many are above x
+pub record EndsRun (x : ContextId) (ns : List Node) (end depth : ℕ) : Type 0 where
+  pub held : is_held x ns ≡ true
+  pub behind : end ≡ index_of x ns + length (subtree x ns)
+  pub above : depth ≡ depth_in x ns
+  pub shallow : depth < end

@@ -1,23 +1,23 @@
 ghost use Rattle.std.specs.Prelude.{◌≡◌, ◌==◌, ◌&&◌, ◌||◌, ◌+◌, ◌-◌, ◌<◌, ◌≤◌, [], length, map, drop};
-ghost use Rattle.std.specs.Prelude.{filter, zip, insert, slice_get, slice_range, nat_lt, None, true, false};
-ghost use Rattle.std.specs.Prelude.{IfOk, OnOk, OnErr, IsOkUnless, MatchOption};
-ghost use Rattle.std.specs.List.{prefix_len, position_or_len, remove_range};
+ghost use Rattle.std.specs.Prelude.{filter, zip, insert, slice_get, slice_range, nat_lt, true, false};
+ghost use Rattle.std.specs.Prelude.{None, Some, IfOk, OnOk, OnErr, IsOkUnless, MatchOption, if◌then◌else◌};
+ghost use Rattle.std.specs.List.{prefix_len, position_or_len, remove_range, list_any};
 ghost use Rattle.std.specs.Option.{option_map, option_map_or};
-ghost use Rattle.indexmap.specs.IndexMap.{get};
+ghost use Rattle.std.specs.HashMap.{get};
 ghost use Rattle.fission_ids.specs.Ids.{same_context};
 ghost use Rattle.context_tree.specs.Node.{is_at, is_child};
 ghost use Rattle.context_tree.specs.Tree.{IsTree, contexts, is_held, parent_in, top_in, is_under, subtree};
 ghost use Rattle.context_tree.specs.Tree.{without, children, refusal, nodes_after, subtree_if_held};
 ghost use Rattle.context_tree.specs.Tree.{is_missing, node_of, is_less, place_in, line_above};
-ghost use Rattle.context_tree.specs.Places.{IsRun, IsUnknown, index_of, is_place_under, place_of};
+ghost use Rattle.context_tree.specs.Places.{IsRun, IsUnknown, EndsRun, depth_of, place_of};
 
 use crate::fault::TreeFault;
 use fission_ids::{ContextId, Duplicate, OutOfMemory};
-use indexmap::IndexMap;
 use std::alloc::{AllocError, Global};
+use std::collections::HashMap;
 use std::marker::Model;
 
-// Where a context stands: its parent, and how many are above it.
+// Where a context hangs: its parent, and how many are above it.
 #[derive(Clone, Copy, Debug, PartialEq, Eq)]
 struct Place {
     parent: Option<ContextId>,
@@ -37,7 +37,11 @@ struct Run {
 /// the top-level contexts by rising id.
 #[derive(Debug, Drop)]
 pub struct Tree {
-    places: IndexMap<ContextId, Place>,
+    // The contexts in pre-order.
+    ids: Vec<ContextId>,
+    // How many are above each of them.
+    depths: Vec<usize>,
+    places: HashMap<ContextId, Place>,
 }
 
 impl Model for Tree {
@@ -48,9 +52,9 @@ impl Model for Tree {
 
     ghost use Rattle.context_tree.specs.Places.{nodes_of, KeepsTree};
 
-    ghost view = { λ t. nodes_of t.places.entries };
+    ghost view = { λ t. nodes_of t.ids.items t.depths.items };
 
-    ghost invariant = { λ t. KeepsTree t.places.entries };
+    ghost invariant = { λ t. KeepsTree t.ids.items t.depths.items t.places.entries };
 }
 
 impl Tree {
@@ -59,7 +63,9 @@ impl Tree {
         ensures { result ≡ [] }
     {
         Tree {
-            places: IndexMap::new(alloc),
+            ids: Vec::new(alloc),
+            depths: Vec::new(alloc),
+            places: HashMap::new(alloc),
         }
     }
 
@@ -75,21 +81,21 @@ impl Tree {
     pub fn len(&self) -> usize
         ensures { result ≡ length self.now }
     {
-        self.places.len()
+        self.ids.len()
     }
 
     /// Whether there is no context.
     pub fn is_empty(&self) -> bool
         ensures { result ≡ (length self.now == 0) }
     {
-        self.places.is_empty()
+        self.ids.is_empty()
     }
 
     /// The contexts in pre-order.
     pub fn contexts(&self) -> &[ContextId]
         ensures { result.now ≡ contexts self.now }
     {
-        self.places.keys().as_slice()
+        self.ids.as_slice()
     }
 
     /// Whether the tree holds a context.
@@ -156,12 +162,19 @@ impl Tree {
         let Some((at, depth)) = self.place_for(parent, id) else {
             return Err(TreeFault::NoParent);
         };
-        put(&mut self.places, at, id, Place { parent, depth })?;
+        put(
+            &mut self.ids,
+            &mut self.depths,
+            &mut self.places,
+            at,
+            id,
+            Place { parent, depth },
+        )?;
         Ok(())
     }
 
     /// Detaches a context with all below it, and gives their ids in pre-order. None exactly where it isn't
-    /// held. On Err the tree stays as it was. The time is linear in the contexts behind it.
+    /// held. On Err the tree stays as it was. The time is linear in the contexts.
     pub fn detach(&mut self, id: ContextId) -> Result<Option<Vec<ContextId>>, OutOfMemory>
         ensures ok { IfOk result (λ ids. (option_map (λ v. v.items) ids ≡ subtree_if_held id self.old)
             × (self.new ≡ without id self.old)) }
@@ -170,9 +183,10 @@ impl Tree {
         let Some(run) = self.run_of(id) else {
             return Ok(None);
         };
-        let ids = self.ids_in(*self.places.allocator(), run)?;
-        cut(&mut self.places, run);
-        Ok(Some(ids))
+        let gone = self.ids_in(*self.ids.allocator(), run)?;
+        forget(&mut self.places, gone.as_slice());
+        cut(&mut self.ids, &mut self.depths, run);
+        Ok(Some(gone))
     }
 
     /// The ids of a context and of all below it, in pre-order. Empty where it isn't held.
@@ -195,34 +209,43 @@ impl Tree {
         }
     }
 
-    // Where a context stands.
+    // Where a context hangs.
     fn place(&self, id: ContextId) -> Option<Place>
         ensures { result ≡ option_map place_of (node_of id self.now) }
     {
         self.places.get(&id).copied()
     }
 
-    // The index of a context, and how many are above it.
-    fn index_and_depth(&self, id: ContextId) -> Option<(usize, usize)>
-        ensures { result ≡ option_map (λ n. (index_of id self.now, length n.above)) (node_of id self.now) }
+    // Whether the second is the parent of the first.
+    fn is_child(&self, id: ContextId, parent: ContextId) -> bool
+        ensures { result ≡ option_map_or (same_context parent) (parent_in id self.now) false }
     {
-        let (index, _, place) = self.places.get_full(&id)?;
-        Some((index, place.depth))
+        Some(parent) == self.parent(id)
     }
 
-    // The run of a context: to the end where the last context is this one or directly in it, and else before
-    // the next that isn't deeper. None exactly where it isn't held.
+    // The run of a context. None exactly where it isn't held.
     fn run_of(&self, id: ContextId) -> Option<Run>
         ensures { MatchOption result (IsUnknown id self.now) (IsRun id self.now) }
     {
         self.stands_as_a_tree();
-        let (start, depth) = self.index_and_depth(id)?;
-        if self.ends_in(id) {
-            let end = self.len();
-            return Some(Run { start, end, depth });
-        }
-        let end = end_of_run(self.standing(), start, depth);
+        let depth = self.place(id)?.depth;
+        let start = index_in(self.contexts(), id);
+        let end = end_of_run(self.depths(), start, depth);
         Some(Run { start, end, depth })
+    }
+
+    // The end of the run of a context, and how many are above it. Where the last context is this one or
+    // directly in it, the run isn't looked for. None exactly where it isn't held.
+    fn end_and_depth(&self, id: ContextId) -> Option<(usize, usize)>
+        ensures { MatchOption result (is_held id self.now ≡ false) (λ r. EndsRun id self.now r.0 r.1) }
+    {
+        self.stands_as_a_tree();
+        let depth = self.place(id)?.depth;
+        if self.ends_in(id) {
+            return Some((self.len(), depth));
+        }
+        let run = self.run_of(id)?;
+        Some((run.end, run.depth))
     }
 
     // Whether the last context is this one, or directly in it.
@@ -230,10 +253,11 @@ impl Tree {
         ensures { result ≡ option_map_or (λ n. is_at id n || is_child id n)
             (slice_get self.now (length self.now - 1)) false }
     {
-        let Some((last, place)) = self.places.last() else {
+        self.stands_as_a_tree();
+        let Some(last) = self.contexts().last() else {
             return false;
         };
-        id == *last || Some(id) == place.parent
+        id == *last || self.is_child(*last, id)
     }
 
     // Where a context goes, and how many are above it there. None exactly where the parent is missing.
@@ -243,10 +267,10 @@ impl Tree {
             × (r.1 ≡ length (line_above parent self.now))) }
     {
         match parent {
-            None => Some((top_place(self.contexts(), self.standing(), id), 0)),
+            None => Some((top_place(self.contexts(), self.depths(), id), 0)),
             Some(p) => {
-                let run = self.run_of(p)?;
-                Some((run.end, run.depth + 1))
+                let (end, depth) = self.end_and_depth(p)?;
+                Some((end, depth + 1))
             }
         }
     }
@@ -271,98 +295,128 @@ impl Tree {
         requires within { run.end ≤ length self.now }
         ensures { IfOk result (λ ids. ids.items ≡ children parent (slice_range self.now run.start run.end)) }
     {
-        let ids = &self.contexts()[run.start..run.end];
-        Ok(children_among(alloc, ids, &self.standing()[run.start..run.end], parent)?)
+        self.stands_as_a_tree();
+        Ok(self.children_among(alloc, &self.contexts()[run.start..run.end], parent)?)
     }
 
-    // Where each context stands, in pre-order.
-    fn standing(&self) -> &[Place]
-        ensures { result.now ≡ map place_of self.now }
+    // Those among the ids that have this parent.
+    fn children_among(
+        &self,
+        alloc: Global,
+        ids: &[ContextId],
+        parent: ContextId,
+    ) -> Result<Vec<ContextId>, AllocError>
+        ensures { IfOk result (λ kept. kept.items ≡
+            filter (λ x. option_map_or (same_context parent) (parent_in x self.now) false) ids.now) }
     {
-        self.places.values().as_slice()
+        ids.iter()
+            .filter(|x| self.is_child(**x, parent))
+            .map(|x| *x)
+            .collect(alloc)
+    }
+
+    // How many are above each context, in pre-order.
+    fn depths(&self) -> &[usize]
+        ensures { result.now ≡ map depth_of self.now }
+    {
+        self.depths.as_slice()
     }
 }
 
 // The index of the first top-level context with a greater id, or how many contexts there are.
-fn top_place(ids: &[ContextId], places: &[Place], id: ContextId) -> usize
-    requires { length ids.now ≡ length places.now }
-    ensures { result ≡ position_or_len (λ e. e.1.depth == 0 && is_less id e.0) (zip ids.now places.now) }
+fn top_place(ids: &[ContextId], depths: &[usize], id: ContextId) -> usize
+    requires { length ids.now ≡ length depths.now }
+    ensures { result ≡ position_or_len (λ e. e.1 == 0 && is_less id e.0) (zip ids.now depths.now) }
 {
     ids.iter()
-        .zip(places)
-        .take_while(|(x, place)| !is_top_past(**x, place, id))
+        .zip(depths)
+        .take_while(|(x, depth)| !is_top_past(**x, **depth, id))
         .count()
 }
 
-// Whether this is a top-level context with a greater id.
-fn is_top_past(x: ContextId, place: &Place, id: ContextId) -> bool
-    ensures { result ≡ (place.now.depth == 0 && is_less id x) }
+// Whether a context with so many above it is a top-level one with a greater id.
+fn is_top_past(x: ContextId, depth: usize, id: ContextId) -> bool
+    ensures { result ≡ (depth == 0 && is_less id x) }
 {
-    place.depth == 0 && id < x
+    depth == 0 && id < x
 }
 
-// Where the run ends that starts here with a place of this depth: before the next one that isn't deeper.
-fn end_of_run(places: &[Place], start: usize, depth: usize) -> usize
-    requires { start < length places.now }
-    ensures { result ≡ start + 1 + prefix_len (λ p. nat_lt depth p.depth) (drop (start + 1) places.now) }
+// The index of an id, or how many ids there are.
+fn index_in(ids: &[ContextId], id: ContextId) -> usize
+    ensures { result ≡ position_or_len (same_context id) ids.now }
 {
-    start + 1 + deeper_in(&places[start + 1..], depth)
+    ids.iter().take_while(|x| id != **x).count()
 }
 
-// How many places at the front are deeper than this.
-fn deeper_in(places: &[Place], depth: usize) -> usize
-    ensures count { result ≡ prefix_len (λ p. nat_lt depth p.depth) places.now }
-    ensures within { result ≤ length places.now }
+// Where the run ends that starts here at this depth: before the next one that isn't deeper.
+fn end_of_run(depths: &[usize], start: usize, depth: usize) -> usize
+    requires { start < length depths.now }
+    ensures { result ≡ start + 1 + prefix_len (nat_lt depth) (drop (start + 1) depths.now) }
 {
-    places.iter().take_while(|p| depth < p.depth).count()
+    start + 1 + deeper_in(&depths[start + 1..], depth)
 }
 
-// The ids that stand beside a place with this parent.
-fn children_among(
-    alloc: Global,
-    ids: &[ContextId],
-    places: &[Place],
-    parent: ContextId,
-) -> Result<Vec<ContextId>, AllocError>
-    requires { length ids.now ≡ length places.now }
-    ensures { IfOk result (λ children. children.items ≡
-        map (λ e. e.0) (filter (λ e. is_place_under parent e.1) (zip ids.now places.now))) }
+// How many at the front are deeper than this.
+fn deeper_in(depths: &[usize], depth: usize) -> usize
+    ensures count { result ≡ prefix_len (nat_lt depth) depths.now }
+    ensures within { result ≤ length depths.now }
 {
-    ids.iter()
-        .zip(places)
-        .filter(|(_, place)| Some(parent) == place.parent)
-        .map(|(id, _)| *id)
-        .collect(alloc)
+    depths.iter().take_while(|d| depth < **d).count()
 }
 
-// Puts a new context in at this index. On Err nothing changes.
+// Puts a context in at this index, and its place beside. On Err nothing changes.
 fn put(
-    places: &mut IndexMap<ContextId, Place>,
+    ids: &mut Vec<ContextId>,
+    depths: &mut Vec<usize>,
+    places: &mut HashMap<ContextId, Place>,
     at: usize,
     id: ContextId,
     place: Place,
 ) -> Result<(), OutOfMemory>
-    requires absent { get same_context places.old id ≡ None }
-    requires within { at ≤ length places.old.entries }
-    ensures ok { OnOk result (places.new.entries ≡ insert places.old.entries at (id, place)) }
-    ensures err { OnErr result (places.new.entries ≡ places.old.entries) }
+    requires within_ids { at ≤ length ids.old.items }
+    requires within_depths { at ≤ length depths.old.items }
+    ensures ids { OnOk result (ids.new.items ≡ insert ids.old.items at id) }
+    ensures depths { OnOk result (depths.new.items ≡ insert depths.old.items at place.depth) }
+    ensures places { OnOk result ((x : ContextId) → get same_context places.new x ≡
+        (if same_context id x then Some place else get same_context places.old x)) }
+    ensures err { OnErr result ((ids.new.items ≡ ids.old.items) × (depths.new.items ≡ depths.old.items)
+        × (places.new.entries ≡ places.old.entries)) }
 {
-    places.shift_insert(at, id, place)?;
+    ids.reserve(1)?;
+    depths.reserve(1)?;
+    places.insert(id, place)?;
+    let _ = ids.insert(at, id);
+    let _ = depths.insert(at, place.depth);
     Ok(())
 }
 
 // Takes a run out.
-fn cut(places: &mut IndexMap<ContextId, Place>, run: Run)
+fn cut(ids: &mut Vec<ContextId>, depths: &mut Vec<usize>, run: Run)
     requires ordered { run.start ≤ run.end }
-    requires within { run.end ≤ length places.old.entries }
-    ensures { places.new.entries ≡ remove_range places.old.entries run.start run.end }
+    requires within_ids { run.end ≤ length ids.old.items }
+    requires within_depths { run.end ≤ length depths.old.items }
+    ensures ids { ids.new.items ≡ remove_range ids.old.items run.start run.end }
+    ensures depths { depths.new.items ≡ remove_range depths.old.items run.start run.end }
 {
-    places.drain(run.start..run.end);
+    ids.drain(run.start..run.end);
+    depths.drain(run.start..run.end);
+}
+
+// Takes the places of these out.
+fn forget(places: &mut HashMap<ContextId, Place>, ids: &[ContextId])
+    ensures { (x : ContextId) → get same_context places.new x ≡
+        (if list_any (same_context x) ids.now then None else get same_context places.old x) }
+{
+    for id in ids {
+        places.remove(id);
+    }
 }
 
 impl Duplicate for Tree {
     fn copy(&self) -> Result<Tree, OutOfMemory> {
         Ok(Tree {
+            ids: self.ids.clone()?,
+            depths: self.depths.clone()?,
             places: self.places.clone()?,
         })
     }

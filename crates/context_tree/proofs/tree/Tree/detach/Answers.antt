@@ -1,28 +1,28 @@
-use Rattle.std.proofs.Common.{◌≡◌, ◌∙◌, ap, sym, map}
+use Rattle.std.proofs.Common.{◌≡◌, ◌∙◌, ap, sym}
 use Rattle.std.specs.Prelude.{Some, None, if◌then◌else◌}
-use Rattle.std.specs.List.{remove_range}
 use Rattle.context_tree.specs.Tree.{without, contexts, subtree}
-use Rattle.context_tree.specs.Places.{entry_of}
-use Rattle.context_tree.proofs.Kept.{tied_to, tree_seen, keeps_entries, seen_entries}
-use Rattle.context_tree.proofs.Changes.{without_tree}
-use Rattle.context_tree.proofs.Spans.{cut_entries}
+use Rattle.context_tree.specs.Places.{Keeps}
+use Rattle.context_tree.proofs.Kept.{kept, keeps, seen}
+use Rattle.context_tree.proofs.Spans.{keeps_without}
 use Rattle.context_tree.proofs.tree.Tree.detach.Goals as goal
 
-left : (c : goal.After-cut) → c.cut.new.places.entries ≡ map entry_of (without c.args.id c.args.self.now)
-left c =
-    let tied = tied_to c.self.inside.places.entries c.args.self.now c.self.invariant c.self.view_is in
-    c.cut.ensures ∙ ap (λ es. remove_range es c.in-Some.run'.start c.in-Some.run'.end) tied
-    ∙ cut_entries c.args.self.now c.in-Some.run'.start c.in-Some.run'.end ∙ ap (map entry_of) c.in-Some.ensures.outside
+gone : (c : goal.After-cut) → c.in_ok-gone.gone.items ≡ contexts (subtree c.args.id c.args.self.now)
+gone c = c.in_ok-gone.ensures ∙ ap contexts c.in-Some.ensures.inside
+
+after : (c : goal.After-cut) → Keeps (without c.args.id c.args.self.now) c.cut.new.ids.items c.cut.new.depths.items c.forget.new.places.entries
+after c =
+    keeps_without c.args.self.now c.self.inside.ids.items c.self.inside.depths.items c.self.inside.places.entries
+    (kept c.args.self.now c.self.inside.ids.items c.self.inside.depths.items c.self.inside.places.entries c.self.invariant c.self.view_is)
+    c.args.id c.in-Some.run' c.in-Some.ensures c.as_slice.result.now (c.as_slice.ensures.value ∙ gone c)
+    c.cut.new.ids.items c.cut.new.depths.items c.forget.new.places.entries c.cut.ensures.ids c.cut.ensures.depths c.forget.ensures
 
 pub invariant_of-self : goal.invariant_of-self
 invariant_of-self c =
-    let tree = tree_seen c.self.inside.places.entries c.args.self.now c.self.invariant c.self.view_is in
-    keeps_entries c.cut.new.places.entries (without c.args.id c.args.self.now) (left c) (without_tree c.args.self.now tree c.args.id)
+    keeps (without c.args.id c.args.self.now) c.cut.new.ids.items c.cut.new.depths.items c.forget.new.places.entries (after c)
 
 pub returns-clause-ok : goal.returns-clause-ok
 returns-clause-ok c =
-    let tree = tree_seen c.self.inside.places.entries c.args.self.now c.self.invariant c.self.view_is in (
-      ap Some (c.in_ok-ids.ensures ∙ ap contexts c.in-Some.ensures.inside)
-          ∙ sym (ap (λ b. if b then Some (contexts (subtree c.args.id c.args.self.now)) else None) c.in-Some.ensures.held),
-      seen_entries c.cut.new.places.entries (without c.args.id c.args.self.now) (left c) (without_tree c.args.self.now tree c.args.id),
+    let k = after c in (
+      ap Some (gone c) ∙ sym (ap (λ b. if b then Some (contexts (subtree c.args.id c.args.self.now)) else None) c.in-Some.ensures.held),
+      seen (without c.args.id c.args.self.now) c.cut.new.ids.items c.cut.new.depths.items k.ids_tied k.depths_tied k.tree,
     )

@@ -1,8 +1,5 @@
 -- The steps that can be played so far, and the processes that they name.
-use Rattle.std.specs.Prelude.{◌≡◌, ℕ, ◌<◌, ⊤, true, is_some}
-use Rattle.field_table.specs.declared.field.Field.{Field}
-use Rattle.protocol.specs.Free.{is_free}
-use Rattle.transaction.specs.Transaction.{Changes, new_value}
+use Rattle.std.specs.Prelude.{ℕ, ◌<◌, ⊤}
 use Rattle.wire_msgs.specs.declared.action.Action.{Action}
 use Rattle.wire_msgs.specs.declared.action.Action.TheVariants as own
 use Rattle.wire_msgs.specs.declared.action.ParentAction.{ParentAction}
@@ -15,13 +12,9 @@ abbrev pub IsPlayed : ParentAction → Type 0
 IsPlayed (Set x t) = ⊤
 IsPlayed action = ⊥
 
--- each field that is modified is one that every process may write
-abbrev pub IsFree : Changes → Type 0
-IsFree t = (f : Field) → is_some (new_value t f) ≡ true → is_free f ≡ true
-
--- so far a process only writes such fields
+-- and so does a process
 abbrev pub IsPlayedByProcess : Action → Type 0
-IsPlayedByProcess (own.Set x t) = IsFree t
+IsPlayedByProcess (own.Set x t) = ⊤
 IsPlayedByProcess action = ⊥
 
 -- a process's step, of which it is one of n

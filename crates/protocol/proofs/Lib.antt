@@ -1,3 +1,4 @@
-pub mod Commits
+pub mod Notes
+pub mod Judging
 pub mod Honest
 pub mod Readings

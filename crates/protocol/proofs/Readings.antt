@@ -11,6 +11,7 @@ use Rattle.wire_msgs.specs.declared.answer.Answer.TheVariants.{Refused}
 use Rattle.wire_msgs.specs.declared.bundle.DownBundle.{DownBundle}
 use Rattle.wire_msgs.specs.declared.part.DownPart.{DownPart}
 use Rattle.wire_msgs.specs.declared.part.DownPart.TheVariants.{Commit}
+use Rattle.wire_msgs.specs.declared.note.FieldNote.{FieldNote}
 use Rattle.wire_msgs.specs.declared.note.PartNote.{PartNote}
 use Rattle.wire_msgs.specs.declared.note.PartNote.TheVariants as notes
 use Rattle.fission_ids.specs.declared.epoch.Epoch.{Epoch}
@@ -29,7 +30,7 @@ use Rattle.protocol.specs.OwnActs.{action_step}
 use Rattle.protocol.specs.OwnActs as acts
 use Rattle.protocol.specs.Take.{Step, bundle_step}
 use Rattle.protocol.specs.Take as take
-use Rattle.protocol.proofs.Honest.{applied_as, ignored_ruling, commit_as}
+use Rattle.protocol.specs.Commits.{applied, judged_ruling, ignored_ruling, commit_ruling}
 
 -- ---- the parent
 
@@ -60,13 +61,17 @@ module _ {Kept : Type 0} (facts : Kept → Facts) (next : Saying → Kept → Ke
   ruling_meets n a sends s f e = record { answer = refl; kept = sending n sends s f e; sends = refl }
 
   -- a commit of a process
-  pub commit_meets : (n p : ℕ) (x : ContextId) (t u : Changes) (s : Kept)
-      → Meets facts (commit_as facts next n p x t u s) (commit_as (λ g. g) facts_after n p x t u (facts s))
-  commit_meets n p x t u s = by (is_judged (facts s) p x)
+  pub commit_meets : (n p : ℕ) (x : ContextId) (t : Changes) (ns : List FieldNote) (s : Kept)
+      → Meets facts (commit_ruling facts next n p x t ns s) (commit_ruling (λ g. g) facts_after n p x t ns (facts s))
+  commit_meets n p x t ns s = by (is_judged (facts s) p x)
     where
-      by : (b : Bool) → Meets facts (if b then applied_as facts next n p x t u s else ignored_ruling facts next n x s)
-          (if b then applied_as (λ g. g) facts_after n p x t u (facts s) else ignored_ruling (λ g. g) facts_after n x (facts s))
-      by true = record { answer = refl; kept = sending n _ (next (Wrote x u) s) (facts_after (Wrote x u) (facts s)) (reads.wrote x u s); sends = refl }
+      by : (b : Bool) → Meets facts (if b then judged_ruling facts next n p x t ns s else ignored_ruling facts next n x s)
+          (if b then judged_ruling (λ g. g) facts_after n p x t ns (facts s) else ignored_ruling (λ g. g) facts_after n x (facts s))
+      by true = record {
+        answer = refl;
+        kept = sending n _ (next (Wrote x (applied ns t)) s) (facts_after (Wrote x (applied ns t)) (facts s)) (reads.wrote x (applied ns t) s);
+        sends = refl;
+      }
       by false = record { answer = refl; kept = sending n _ s (facts s) refl; sends = refl }
 
   -- a set of the parent

@@ -11,5 +11,6 @@ pub mod Take
 pub mod OwnActs
 pub mod SeenAfter
 pub mod Start
-pub mod Free
+pub mod Outside
+pub mod Commits
 pub mod Rows

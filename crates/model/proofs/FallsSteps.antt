@@ -149,18 +149,18 @@ end_plain : (cause : EndCause) → AllByRecursion IsPlain (end_parts cause)
 end_plain Failed = tt
 end_plain _ = (tt, tt)
 
-heard_plain : (facts : List Saying → Facts) (n p : ℕ) (b : UpBundle) → IsOneCommit b.parts → AreSentPlain (bundle_ruling facts (λ y says. y ∷ says) n (λ fld. false) p b [])
-heard_plain facts n p b one =
+heard_plain : (allows : Field → Bool) (facts : List Saying → Facts) (n p : ℕ) (b : UpBundle) → IsOneCommit b.parts → AreSentPlain (bundle_ruling facts (λ y says. y ∷ says) n allows p b [])
+heard_plain allows facts n p b one =
     let next : Saying → List Saying → List Saying = λ y says. y ∷ says in
     let counted : List Saying = if is_counted (facts []) p b then Counted p ∷ [] else [] in
-    let fault : Option EndCause = or_later (envelope_fault (facts []) p b) (first_fault (hear_rules (λ fld. false) p p) facts next 1 counted b.parts) in
+    let fault : Option EndCause = or_later (envelope_fault (facts []) p b) (first_fault (hear_rules allows p p) facts next 1 counted b.parts) in
     let ended : EndCause → Ruling (List Saying) = λ cause. end_ruling facts next n p cause counted in
-    let done : Ruling (List Saying) = parts_ruling facts next n (λ fld. false) p b counted in
+    let done : Ruling (List Saying) = parts_ruling facts next n allows p b counted in
     if_either AreSentPlain (is_some ((facts []).processes.ended p)) (ruling facts next n Ignored (λ q. []) []) (option_map_or ended fault done)
     (record { sent = λ q. tt })
     (either_way AreSentPlain ended fault done
     (λ cause. record { sent = λ q. if_either (AllByRecursion IsPlain) (q == p) (end_parts cause) [] (end_plain cause) tt })
-    (record { sent = λ q. parts_plain (λ fld. false) facts p q counted b.parts one }))
+    (record { sent = λ q. parts_plain allows facts p q counted b.parts one }))
 
 -- ---- what becomes of the links of each process
 
@@ -199,8 +199,8 @@ act_changes c p action ms played lights q =
     let step = action_step now (λ d did. d ∷ did) p action [] in
     one_alone p (written (bundle_sent (now step.kept) step.sends)) (λ q. events_of q ms) 17 0 lights (sends_own (now step.kept) step.sends (events_of p ms) (acted_few now p action played).few (lights p)) q
 
-pub parent_changes : (c : Config) (action : ParentAction) (ms : List Moment) → IsPlayed action → Lights ms → EachChanged ms (moment c ms (ParentAct action)) (λ q. 1) (λ q. 0)
-parent_changes c action ms played lights q =
+pub parent_changes : (c : Config) (action : ParentAction) (ms : List Moment) (allows : Field → Bool) → IsPlayed action → Lights ms → EachChanged ms (moment c ms allows (ParentAct action)) (λ q. 1) (λ q. 0)
+parent_changes c action ms allows played lights q =
     let facts : List Saying → Facts = λ says. asked c.tabs (says ++ said ms) in
     let rule : Ruling (List Saying) = action_ruling facts (λ y says. y ∷ says) (length c.types) action [] in
     one_told (length ms + 1) rule.kept (rule.sends q) (events_of q ms) ((written_plain facts (length c.types) action played).sent q) (lights q)
@@ -216,14 +216,15 @@ take_changes c p ms b bs first lights q =
     (subst (λ sends. Changed (events_of p ms) ((written (bundle_sent (now step.kept) sends) ++ Takes b ∷ []) ++ events_of p ms) 0 1) (sym none) (one_taken (events_of p ms) b bs first (lights p)))
     q
 
-pub hear_changes : (c : Config) (p : ℕ) (ms : List Moment) (b : UpBundle) (ws : List Written) → writes_waiting (events_of p ms) ≡ Own b ∷ ws → Lights ms
-    → EachChanged ms (heard_moment c p ms (Own b ∷ ws)) (λ q. 1) (at_one p 17)
-hear_changes c p ms b ws first lights q =
+pub hear_changes : (c : Config) (p : ℕ) (ms : List Moment) (allows : Field → Bool) (b : UpBundle) (ws : List Written) → writes_waiting (events_of p ms) ≡ Own b ∷ ws → Lights ms
+    → EachChanged ms (heard_moment c p ms allows (Own b ∷ ws)) (λ q. 1) (at_one p 17)
+hear_changes c p ms allows b ws first lights q =
     let one : IsOneCommit b.parts = first_commit (events_of p ms) b ws first (lights p) in
     let facts : List Saying → Facts = λ says. asked c.tabs (says ++ said ms) in
-    let rule : Ruling (List Saying) = bundle_ruling facts (λ y says. y ∷ says) (length c.types) (λ fld. false) p b [] in
-    elim (q == p) as (λ v. (q == p) ≡ v → Changed (events_of q ms) ((if v then heard (length ms + 1) b rule.answer ∷ [] else told (length ms + 1) rule.kept (rule.sends q) ∷ []) ++ events_of q ms) 1 (if v then 17 else 0)) [
-      | true ↦ λ same. subst (λ x. Changed (events_of x ms) (heard (length ms + 1) b rule.answer ∷ events_of x ms) 1 17) (sym (eqb-true q p same))
-          (weaker _ _ 0 17 1 17 (omega arith) (omega arith) (one_heard (length ms + 1) (events_of p ms) b ws rule.answer first (lights p)))
-      | false ↦ λ _. one_told (length ms + 1) rule.kept (rule.sends q) (events_of q ms) ((heard_plain facts (length c.types) p b one).sent q) (lights q)
+    let rule : Ruling (List Saying) = bundle_ruling facts (λ y says. y ∷ says) (length c.types) allows p b [] in
+    let plain : (r : ℕ) → AllByRecursion IsPlain (rule.sends r) = (heard_plain allows facts (length c.types) p b one).sent in
+    elim (q == p) as (λ v. (q == p) ≡ v → Changed (events_of q ms) ((if v then heard (length ms + 1) b rule.answer (rule.sends p) ∷ [] else told (length ms + 1) rule.kept (rule.sends q) ∷ []) ++ events_of q ms) 1 (if v then 17 else 0)) [
+      | true ↦ λ same. subst (λ x. Changed (events_of x ms) (heard (length ms + 1) b rule.answer (rule.sends p) ∷ events_of x ms) 1 17) (sym (eqb-true q p same))
+          (one_heard (length ms + 1) (events_of p ms) b ws rule.answer (rule.sends p) first (plain p) (lights p))
+      | false ↦ λ _. one_told (length ms + 1) rule.kept (rule.sends q) (events_of q ms) (plain q) (lights q)
     ] refl

@@ -7,16 +7,16 @@ use Rattle.wire_msgs.specs.declared.bundle.UpBundle.{UpBundle}
 use Rattle.wire_msgs.specs.declared.config.Config.{Config}
 use Rattle.wire_msgs.specs.declared.config.StartTab.{StartTab}
 use Rattle.wire_msgs.specs.declared.part.UpPart.TheVariants as ups
-use Rattle.journal.specs.Step.{IsFree}
+use Rattle.protocol.specs.OwnActs.{denied_to_process}
 use Rattle.protocol.specs.Questions.{Facts}
-use Rattle.protocol.specs.Start.{is_held_at_start}
+use Rattle.protocol.specs.Start.{is_held_at_start, seen_at_start}
 use Rattle.traces.specs.Links.{hears, last_write, takes, writes_waiting, bundles_waiting}
 use Rattle.traces.specs.Links as links
 use Rattle.model.specs.Laws.{RunFits}
 use Rattle.model.specs.Links.{own_bundles, up_waiting}
-use Rattle.model.specs.Moments.{Moment, Written, events_of, facts_now, seen_now}
+use Rattle.model.specs.Moments.{Moment, Written, events_of, facts_now, seen_now, moments_of}
 use Rattle.model.specs.Moments.Written.{Own, Said}
-use Rattle.model.specs.Next.{Run, moments_of}
+use Rattle.model.specs.Next.{Run}
 use Rattle.model.proofs.Ties.{IsHonest, AreHonest, AreCommits}
 use Rattle.model.proofs.ShownLaws.{Tied_run, run_tied}
 
@@ -26,7 +26,7 @@ pub record IsOwnCommit (tabs : List StartTab) (f : Facts) (p k : ℕ) (b : UpBun
   pub changes : Changes
   pub parts : b.parts ≡ ups.Commit context changes ∷ []
   pub held : is_held_at_start tabs p context ≡ true
-  pub free : IsFree changes
+  pub allowed : denied_to_process p (seen_at_start tabs p) context changes ≡ []
   pub epoch : b.epoch.0 ≡ k
   pub seen : b.seen ≤ f.processes.bundles_sent p
 
@@ -46,7 +46,7 @@ own_commit tabs f p k b h = record {
   changes = h.changes;
   parts = ap (λ w. (bundle_of w b).parts) h.is;
   held = h.held;
-  free = h.free;
+  allowed = h.allowed;
   epoch = ap (λ w. (bundle_of w b).epoch.0) h.is;
   seen = subst (λ n. n ≤ f.processes.bundles_sent p) (sym (ap (λ w. (bundle_of w b).seen) h.is)) h.seen_sent;
 }

@@ -1,5 +1,5 @@
 -- The ties hold of every process, behind every list of steps that can be played.
-use Rattle.std.proofs.Common.{◌≡◌, ℕ, ◌+◌, ◌<◌, ◌≤◌, ◌==◌, Bool, true, false, not, if◌then◌else◌, Option, None, Some, is_some, List, [], ◌∷◌, ◌++◌, length, refl, ap, sym, subst, ◌∙◌, arith, eq-eqb, eqb-true}
+use Rattle.std.proofs.Common.{◌≡◌, ◌⊎◌, inl, inr, ℕ, ◌+◌, ◌<◌, ◌≤◌, ◌==◌, Bool, true, false, not, ◌&&◌, if◌then◌else◌, Option, None, Some, is_some, List, [], ◌∷◌, ◌++◌, length, refl, ap, sym, subst, ◌∙◌, arith, eq-eqb, eqb-true}
 use Rattle.std.specs.List.{AllByRecursion, list_any}
 use Rattle.std.specs.Option.{option_map_or}
 use Rattle.std.proofs.Math.Path.{fun_ext}
@@ -7,22 +7,27 @@ use Rattle.fission_ids.specs.declared.context.ContextId.{ContextId}
 use Rattle.fission_ids.specs.Ids.{same_context}
 use Rattle.field_table.specs.declared.field.Field.{Field}
 use Rattle.field_table.specs.declared.value.Value.{Value}
+use Rattle.field_table.specs.declared.verdict.Verdict.{Verdict}
+use Rattle.field_table.specs.declared.verdict.Verdict.TheVariants.{Allow, Deny, Revert}
+use Rattle.field_table.specs.Field.{initial}
+use Rattle.field_table.proofs.Tables.{at_number}
 use Rattle.transaction.specs.Transaction.{Changes, new_value}
 use Rattle.wire_msgs.specs.declared.action.Action.{Action}
 use Rattle.wire_msgs.specs.declared.action.Action.TheVariants as own
 use Rattle.wire_msgs.specs.declared.action.ParentAction.{ParentAction}
 use Rattle.wire_msgs.specs.declared.action.ParentAction.TheVariants.{Set}
 use Rattle.wire_msgs.specs.declared.answer.Answer.{Answer}
-use Rattle.wire_msgs.specs.declared.answer.Answer.TheVariants.{Refused, Done}
+use Rattle.wire_msgs.specs.declared.answer.Answer.TheVariants.{Refused, Done, Parts}
 use Rattle.wire_msgs.specs.declared.bundle.UpBundle.{UpBundle}
 use Rattle.wire_msgs.specs.declared.config.Config.{Config}
-use Rattle.wire_msgs.specs.declared.note.FieldMark.TheVariants.{Applied}
+use Rattle.wire_msgs.specs.declared.note.FieldMark.{FieldMark}
+use Rattle.wire_msgs.specs.declared.note.FieldNote.{FieldNote}
 use Rattle.wire_msgs.specs.declared.note.PartNote.TheVariants as notes
 use Rattle.wire_msgs.specs.declared.part.DownPart.{DownPart}
 use Rattle.wire_msgs.specs.declared.part.DownPart.TheVariants as downs
 use Rattle.wire_msgs.specs.declared.refusal.Refusal.{Refusal}
 use Rattle.wire_msgs.specs.declared.refusal.Refusal.TheVariants as refusals
-use Rattle.journal.specs.Step.{StepFits, IsPlayed, IsPlayedByProcess, IsFree}
+use Rattle.journal.specs.Step.{StepFits, IsPlayed, IsPlayedByProcess}
 use Rattle.journal.specs.declared.entry.Step.{Step}
 use Rattle.journal.specs.declared.entry.Step.TheVariants.{Act, Take, ParentAct, Hear}
 use Rattle.protocol.specs.Questions.{Facts, is_told}
@@ -32,9 +37,10 @@ use Rattle.protocol.specs.Seen.{Seen, Doing}
 use Rattle.protocol.specs.Seen.Doing.{Wrote as OwnWrote, Given, Took}
 use Rattle.protocol.specs.Fold.{behind_all, after_parts, posts_of}
 use Rattle.protocol.specs.FactsAfter.{raised}
-use Rattle.protocol.specs.Start.{is_held_at_start}
+use Rattle.protocol.specs.Outside.{told_allowed}
+use Rattle.protocol.specs.Start.{is_held_at_start, seen_at_start}
 use Rattle.protocol.specs.Order.{in_order, parts_with_all}
-use Rattle.protocol.specs.Hear.{changes_where, is_noted, is_applied, commit_unless_empty}
+use Rattle.protocol.specs.Hear.{changes_where, is_noted, is_applied, is_reverted, mark_of, verdict_of, field_notes, values_where, commit_unless_empty}
 use Rattle.protocol.specs.Bundle.{Ruling, ruling, is_no_bundle, bundle_ruling}
 use Rattle.protocol.specs.ParentActs as parents
 use Rattle.protocol.specs.ParentActs.{done_ruling, denial_refused, refused_if}
@@ -42,23 +48,25 @@ use Rattle.protocol.specs.OwnActs as acts
 use Rattle.protocol.specs.OwnActs.{action_step, denied_to_process}
 use Rattle.protocol.specs.Take as takes
 use Rattle.protocol.specs.Take.{bundle_sent, taken_notes}
-use Rattle.protocol.proofs.Commits.{applied_notes}
-use Rattle.protocol.proofs.Honest.{applied_as, ignored_ruling, due_ruling}
+use Rattle.protocol.specs.Commits.{applied, sent_back, sent_on, judged_ruling, ignored_ruling}
+use Rattle.protocol.proofs.Honest.{due_ruling}
 use Rattle.traces.specs.Event.{Bundle}
-use Rattle.traces.specs.Event.Event.{Writes, Takes, Accepts}
+use Rattle.traces.specs.Event.Event.{Writes, Takes}
 use Rattle.traces.specs.Links.{hears, writes_waiting, bundles_waiting}
-use Rattle.traces.specs.Field.Content.{Nothing}
-use Rattle.model.specs.Moments.{Moment, Written, ProcessEvent, said, did_by, events_of, for_one, written, act_moment, taken_moment, told, parent_moment, events_heard, heard_moment, moment, moments}
+use Rattle.traces.specs.Field.Content.{Nothing, Gives}
+use Rattle.traces.specs.Words as words
+use Rattle.model.specs.Moments.{Moment, Written, ProcessEvent, said, did_by, events_of, for_one, written, act_moment, taken_moment, told, heard as heard_event, parent_moment, events_heard, heard_moment, moment, moments_of}
 use Rattle.model.specs.Moments.Written.{Own, Said}
-use Rattle.model.specs.Parent.{asked, commits_heard, bundles_sent}
+use Rattle.model.specs.Journal.{Journal, steps_of}
+use Rattle.model.specs.Parent.{asked, value, commits_heard, bundles_sent}
 use Rattle.model.specs.Process.{own_asked, commits, taken}
 use Rattle.model.specs.View.{value_for, value_said, given, content_of}
-use Rattle.model.proofs.TiesFields.{marked_value, unmodified}
-use Rattle.model.proofs.TiesStart.{same_context_is, told_is_held, held_judged}
+use Rattle.protocol.proofs.Notes.{noted, marked_value, unmodified}
+use Rattle.model.proofs.TiesStart.{same_context_is, told_is_held, held_live, held_judged, same_denied, none_refused}
 use Rattle.model.proofs.TiesSending.{behind, sent_said, sent_heard, sent_at}
 use Rattle.model.proofs.TiesValues.{no_later, none_for}
-use Rattle.model.proofs.Ties.{Ties, IsHonest, AreHonest, IsCommit, AreCommits, own_bundle, none_yet, rested, wrote, took, unsent, sent, heard}
-use Rattle.model.proofs.Shown.{FieldTies, TellsField, did_at_take, field_start, field_wrote, field_took, field_unsent, field_sent, field_heard}
+use Rattle.model.proofs.Ties.{Ties, IsHonest, AreHonest, IsCommit, AreCommits, own_bundle, none_yet, rested, wrote, took, unsent, sent, heard, reverted}
+use Rattle.model.proofs.Shown.{FieldTies, TellsField, WasApplied, WasSentBack, trace_of, did_at_take, field_start, field_wrote, field_took, field_unsent, field_sent, field_heard, field_reverted}
 
 -- ---- all ties of a process
 
@@ -108,7 +116,17 @@ not_not : (b : Bool) → not b ≡ false → b ≡ true
 not_not true e = refl
 not_not false e = absurd cc
 
--- a write that isn't refused is of what the process holds
+refused_later : (b : Bool) (why : Refusal) (later : Option Refusal) → refused_if b why later ≡ None → later ≡ None
+refused_later true why later e = absurd cc
+refused_later false why later e = e
+
+-- a write that isn't refused is of nothing that is denied
+write_allowed : (c : Config) (q : ℕ) (did : List Doing) (x : ContextId) (t : Changes) → acts.refusal q (own_asked c.tabs q did) (own.Set x t) ≡ None → denied_to_process q (seen_at_start c.tabs q) x t ≡ []
+unfolding acts.refusal
+write_allowed c q did x t e =
+    none_refused (denied_to_process q (seen_at_start c.tabs q) x t) (refused_later (not (is_held_at_start c.tabs q x)) refusals.NoContext (denial_refused (denied_to_process q (own_asked c.tabs q did) x t)) e)
+
+-- and of what the process holds
 write_held : (c : Config) (q : ℕ) (did : List Doing) (x : ContextId) (t : Changes) → acts.refusal q (own_asked c.tabs q did) (own.Set x t) ≡ None → is_held_at_start c.tabs q x ≡ true
 unfolding acts.refusal
 write_held c q did x t e = not_not (is_held_at_start c.tabs q x) (if_refused (not (is_held_at_start c.tabs q x)) refusals.NoContext (denial_refused (denied_to_process q (own_asked c.tabs q did) x t)) e)
@@ -142,25 +160,26 @@ write_is c q x t ms = go (acts.refusal q (own_asked c.tabs q (did_by q ms)) (own
     go (Some why) = refl
     go None = refl
 
-act_tied : (c : Config) (p q : ℕ) (x : ContextId) (t : Changes) (ms : List Moment) → IsFree t → Tied_behind c p ms → Tied_behind c q ms → Tied_next c p (act_moment c q (own.Set x t) ms) ms
-act_tied c p q x t ms free tp tq = subst (λ m. Tied_next c p m ms) (sym (write_is c q x t ms)) (go (acts.refusal q (own_asked c.tabs q (did_by q ms)) (own.Set x t)) refl)
+act_tied : (c : Config) (p q : ℕ) (x : ContextId) (t : Changes) (ms : List Moment) → Tied_behind c p ms → Tied_behind c q ms → Tied_next c p (act_moment c q (own.Set x t) ms) ms
+act_tied c p q x t ms tp tq = subst (λ m. Tied_next c p m ms) (sym (write_is c q x t ms)) (go (acts.refusal q (own_asked c.tabs q (did_by q ms)) (own.Set x t)) refl)
   where
     go : (o : Option Refusal) → acts.refusal q (own_asked c.tabs q (did_by q ms)) (own.Set x t) ≡ o → Tied_next c p (write_moment c q x t ms o) ms
     go (Some why) e = for_each c p q [] [] (Refused why) ms tp (still c q ms tq)
     go None e =
         let held : is_held_at_start c.tabs q x ≡ true = write_held c q (did_by q ms) x t e in
+        let allowed : denied_to_process q (seen_at_start c.tabs q) x t ≡ [] = write_allowed c q (did_by q ms) x t e in
         for_each c p q (OwnWrote x t ∷ []) (Writes (Own (own_bundle (commits (did_by q ms) + 1) (taken (did_by q ms)) x t)) ∷ []) Done ms tp
         (record {
-          links = wrote c.tabs q (said ms) (did_by q ms) (events_of q ms) (length ms) x t held free tq.links;
+          links = wrote c.tabs q (said ms) (did_by q ms) (events_of q ms) (length ms) x t held allowed tq.links;
           fields = λ y f. field_wrote c q y f (said ms) (did_by q ms) (events_of q ms) (length ms) (commits (did_by q ms) + 1) (taken (did_by q ms)) x t held tq.links (tq.fields y f);
         })
 
 -- ---- a process takes
 
-abbrev commit_for : ℕ → ℕ → ContextId → Changes → Bundle (List DownPart)
+abbrev pub commit_for : ℕ → ℕ → ContextId → Changes → Bundle (List DownPart)
 commit_for k epoch y t = record { entry = k; epoch = epoch; content = downs.Commit y t ∷ [] }
 
-take_is : (c : Config) (q k epoch : ℕ) (y : ContextId) (t : Changes) (ms : List Moment) (rest : List (Bundle (List DownPart))) → is_held_at_start c.tabs q y ≡ true
+pub take_is : (c : Config) (q k epoch : ℕ) (y : ContextId) (t : Changes) (ms : List Moment) (rest : List (Bundle (List DownPart))) → is_held_at_start c.tabs q y ≡ true
     → taken_moment c q ms (commit_for k epoch y t ∷ rest) ≡ record {
       says = [];
       did = for_one q (Took ∷ Given y (changes_where (is_noted is_applied (taken_notes epoch (own_asked c.tabs q (did_by q ms)) y t)) t) ∷ []);
@@ -337,142 +356,251 @@ set_tied c p x t ms lt tp = subst (λ r. Tied_next c p (parent_moment (length ms
 
 -- ---- the parent hears a bundle
 
--- what is applied of changes that are applied whole
-abbrev applied_of : Changes → Changes
-applied_of t = changes_where (is_noted is_applied (applied_notes t)) t
+-- the notes of the commit that process q has to make next
+abbrev pub hear_notes : Config → (Field → Bool) → ℕ → ContextId → Changes → List Moment → List FieldNote
+hear_notes c allows q y t ms = field_notes allows (asked c.tabs (Counted q ∷ said ms)) q y t
 
-applied_for : (x : ContextId) (f : Field) (y : ContextId) (t : Changes) → value_for x f y (applied_of t) ≡ value_for x f y t
-applied_for x f y t = ap (λ o. if same_context x y then o else None) (marked_value is_applied (λ g. Applied) t f)
+-- its ruling
+abbrev pub hear_ruling : Config → (Field → Bool) → ℕ → ContextId → Changes → List Moment → Ruling (List Saying)
+hear_ruling c allows q y t ms = judged_ruling (λ says. asked c.tabs (says ++ said ms)) (λ s says. s ∷ says) (length c.types) q y t (hear_notes c allows q y t ms) (Counted q ∷ [])
 
--- the ruling of the commit that process q has to make next
-abbrev hear_ruling : Config → ℕ → ContextId → Changes → List Moment → Ruling (List Saying)
-hear_ruling c q y t ms = applied_as (λ says. asked c.tabs (says ++ said ms)) (λ s says. s ∷ says) (length c.types) q y t (applied_of t) (Counted q ∷ [])
-
-hear_is : (c : Config) (q k seen : ℕ) (y : ContextId) (t : Changes) (ms : List Moment) → is_held_at_start c.tabs q y ≡ true → IsFree t
+pub hear_is : (c : Config) (allows : Field → Bool) (q k seen : ℕ) (y : ContextId) (t : Changes) (ms : List Moment) → is_held_at_start c.tabs q y ≡ true → denied_to_process q (seen_at_start c.tabs q) y t ≡ []
     → k ≡ commits_heard q (said ms) + 1 → seen ≤ bundles_sent q (said ms)
-    → bundle_ruling (λ says. asked c.tabs (says ++ said ms)) (λ s says. s ∷ says) (length c.types) (λ fld. false) q (own_bundle k seen y t) [] ≡ hear_ruling c q y t ms
-hear_is c q k seen y t ms held free due le =
-    due_ruling (λ says. asked c.tabs (says ++ said ms)) (λ s says. s ∷ says) (length c.types) (λ fld. false) q y t (applied_of t) (record { 0 = k }) seen [] refl free refl due le refl
-    ∙ ap (λ (b : Bool). if b then hear_ruling c q y t ms else ignored_ruling (λ says. asked c.tabs (says ++ said ms)) (λ s says. s ∷ says) (length c.types) y (Counted q ∷ []))
+    → bundle_ruling (λ says. asked c.tabs (says ++ said ms)) (λ s says. s ∷ says) (length c.types) allows q (own_bundle k seen y t) [] ≡ hear_ruling c allows q y t ms
+hear_is c allows q k seen y t ms held allowed due le =
+    due_ruling (λ says. asked c.tabs (says ++ said ms)) (λ s says. s ∷ says) (length c.types) allows q y t (record { 0 = k }) seen [] refl due le
+    (same_denied allows c.tabs (Counted q ∷ said ms) q y t ∙ allowed)
+    ∙ ap (λ (b : Bool). if b then hear_ruling c allows q y t ms else ignored_ruling (λ says. asked c.tabs (says ++ said ms)) (λ s says. s ∷ says) (length c.types) y (Counted q ∷ []))
     (held_judged c.tabs (Counted q ∷ said ms) q y held)
 
--- the moment of a hear, by its ruling
-abbrev hear_moment : ℕ → ℕ → UpBundle → Ruling (List Saying) → Moment
+-- ---- what is sent back
+
+applied_or_reverted : (v : Verdict) → is_reverted (mark_of v) ≡ not (is_applied (mark_of v))
+applied_or_reverted Allow = refl
+applied_or_reverted Deny = refl
+applied_or_reverted Revert = refl
+
+-- a field is applied, or its present value is sent back
+either_judged : (b a r : Bool) (o now : Option Value) (present : Value) → r ≡ not a → (b ≡ true → now ≡ Some present)
+    → (WasApplied (if b then o else None) (if b then (if a then o else None) else None) (given (if b then (if is_some o && r then now else None) else None) Nothing)
+    ⊎ WasSentBack now (if b then o else None) (if b then (if a then o else None) else None) (given (if b then (if is_some o && r then now else None) else None) Nothing))
+either_judged false a r o now present not_applied is = inl (record { nothing = refl; said = refl })
+either_judged true true r None now present not_applied is = inl (record { nothing = refl; said = refl })
+either_judged true false r None now present not_applied is = inl (record { nothing = refl; said = refl })
+either_judged true true r (Some v) now present not_applied is =
+    inl (record { nothing = ap (λ (z : Bool). given (if z then now else None) Nothing) not_applied; said = refl })
+either_judged true false r (Some v) now present not_applied is =
+    inr (record {
+      value = v;
+      back = present;
+      written = refl;
+      gives = ap (λ (z : Bool). given (if z then now else None) Nothing) not_applied ∙ ap (λ o. given o Nothing) (is refl);
+      present = is refl;
+      said = refl;
+    })
+
+module _ (c : Config) (allows : Field → Bool) (q : ℕ) (y : ContextId) (t : Changes) (ms : List Moment) where
+  -- the present values of the fields that are reverted
+  abbrev back : Changes
+  back = values_where (is_noted is_reverted (hear_notes c allows q y t ms)) (asked c.tabs (Counted q ∷ said ms)) y
+
+  mark : Field → FieldMark
+  mark f = mark_of (verdict_of allows (asked c.tabs (Counted q ∷ said ms)) q y t f)
+
+  back_value : (f : Field) → new_value back f ≡ (if is_some (new_value t f) && is_reverted (mark f) then value c.tabs y f (said ms) else None)
+  unfolding value mark
+  back_value f =
+      at_number (λ g. if is_noted is_reverted (hear_notes c allows q y t ms) g then value c.tabs y g (said ms) else None) None f
+      ∙ ap (λ b. if b then value c.tabs y f (said ms) else None) (noted is_reverted (λ g. mark_of (verdict_of allows (asked c.tabs (Counted q ∷ said ms)) q y t g)) t f)
+
+  field_judged : Tied_behind c q ms → is_held_at_start c.tabs q y ≡ true → (x : ContextId) (f : Field)
+      → (WasApplied (value_for x f y t) (value_for x f y (applied (hear_notes c allows q y t ms) t)) (given (value_for x f y back) Nothing)
+      ⊎ WasSentBack (value c.tabs x f (said ms)) (value_for x f y t) (value_for x f y (applied (hear_notes c allows q y t ms) t)) (given (value_for x f y back) Nothing))
+  unfolding mark
+  field_judged tq held x f =
+      subst (λ u. WasApplied (value_for x f y t) u (given (value_for x f y back) Nothing) ⊎ WasSentBack (value c.tabs x f (said ms)) (value_for x f y t) u (given (value_for x f y back) Nothing))
+      (sym (ap (λ o. if same_context x y then o else None) (marked_value is_applied mark t f)))
+      (subst (λ o. WasApplied (value_for x f y t) (if same_context x y then (if is_applied (mark f) then new_value t f else None) else None) (given o Nothing)
+      ⊎ WasSentBack (value c.tabs x f (said ms)) (value_for x f y t) (if same_context x y then (if is_applied (mark f) then new_value t f else None) else None) (given o Nothing))
+      (sym (back_is (same_context x y) refl))
+      (either_judged (same_context x y) (is_applied (mark f)) (is_reverted (mark f)) (new_value t f) (value c.tabs x f (said ms)) (words.value (initial f) (trace_of x f (events_of q ms)))
+      (applied_or_reverted (verdict_of allows (asked c.tabs (Counted q ∷ said ms)) q y t f))
+      (λ e. (tq.fields x f).told (held_live c.tabs q x (ap (is_held_at_start c.tabs q) (same_context_is x y e) ∙ held)))))
+    where
+      back_is : (b : Bool) → same_context x y ≡ b → (if b then new_value back f else None) ≡ (if b then (if is_some (new_value t f) && is_reverted (mark f) then value c.tabs x f (said ms) else None) else None)
+      back_is true e = back_value f ∙ ap (λ z. if is_some (new_value t f) && is_reverted (mark f) then value c.tabs z f (said ms) else None) (sym (same_context_is x y e))
+      back_is false e = refl
+
+  gives_nothing : (v : Value) → Nothing ≡ Gives v → ⊥
+  gives_nothing v e = cc
+
+  -- where nothing is sent back all was applied
+  all_applied : Tied_behind c q ms → is_held_at_start c.tabs q y ≡ true → list_any is_some back ≡ false → (x : ContextId) (f : Field) → value_for x f y (applied (hear_notes c allows q y t ms) t) ≡ value_for x f y t
+  all_applied tq held none x f = go (field_judged tq held x f)
+    where
+      go : (WasApplied (value_for x f y t) (value_for x f y (applied (hear_notes c allows q y t ms) t)) (given (value_for x f y back) Nothing)
+          ⊎ WasSentBack (value c.tabs x f (said ms)) (value_for x f y t) (value_for x f y (applied (hear_notes c allows q y t ms) t)) (given (value_for x f y back) Nothing))
+          → value_for x f y (applied (hear_notes c allows q y t ms) t) ≡ value_for x f y t
+      go (inl a) = a.said
+      go (inr s) = absurd (gives_nothing s.back (sym (ap (λ o. given o Nothing) (none_either (same_context x y) (new_value back f) (unmodified back f none))) ∙ s.gives))
+
+-- ---- the moment of a hear
+
+-- by its ruling
+abbrev pub hear_moment : ℕ → ℕ → UpBundle → Ruling (List Saying) → Moment
 hear_moment k q b rule = record { says = rule.kept; did = λ p. []; events = events_heard k q b rule; answer = rule.answer }
 
 empty_commit : (c : Config) (p : ℕ) (y : ContextId) (t : Changes) (b : Bool) → is_held_at_start c.tabs p y ≡ true → AreOneCommit c p (if b then downs.Commit y t ∷ [] else [])
 empty_commit c p y t true held = commit_parts c p y t held
 empty_commit c p y t false held = tt
 
-hear_commit : (c : Config) (p q seen : ℕ) (y : ContextId) (t : Changes) (ms : List Moment) (rest : List Written) → p < length c.types → q < length c.types
-    → is_held_at_start c.tabs q y ≡ true → IsFree t → seen ≤ bundles_sent q (said ms)
+hear_commit : (c : Config) (allows : Field → Bool) (p q seen : ℕ) (y : ContextId) (t : Changes) (ms : List Moment) (rest : List Written) → p < length c.types → q < length c.types
+    → is_held_at_start c.tabs q y ≡ true → denied_to_process q (seen_at_start c.tabs q) y t ≡ [] → seen ≤ bundles_sent q (said ms)
     → writes_waiting (events_of q ms) ≡ Own (own_bundle (hears (events_of q ms) + 1) seen y t) ∷ rest → Tied_behind c p ms → Tied_behind c q ms
-    → Tied_next c p (hear_moment (length ms + 1) q (own_bundle (hears (events_of q ms) + 1) seen y t) (hear_ruling c q y t ms)) ms
+    → Tied_next c p (hear_moment (length ms + 1) q (own_bundle (hears (events_of q ms) + 1) seen y t) (hear_ruling c allows q y t ms)) ms
 unfolding commits_heard bundles_sent
-hear_commit c p q seen y t ms rest lt lq held free le first tp tq = go (p == q) refl
+hear_commit c allows p q seen y t ms rest lt lq held allowed le first tp tq = go (p == q) refl
   where
     facts : List Saying → Facts
     facts says = asked c.tabs (says ++ said ms)
 
+    ns : List FieldNote
+    ns = hear_notes c allows q y t ms
+
+    u : Changes
+    u = applied ns t
+
     sends : ℕ → List DownPart
-    sends r = if r == q then [] else if is_told (facts (Counted q ∷ [])) r y then commit_unless_empty y (applied_of t) else []
+    sends r = if r == q then sent_back ns (facts (Counted q ∷ [])) y else sent_on ns (facts (Counted q ∷ [])) r y t
 
     says : List Saying
-    says = Wrote y (applied_of t) ∷ Counted q ∷ []
+    says = Wrote y u ∷ Counted q ∷ []
+
+    b : UpBundle
+    b = own_bundle (hears (events_of q ms) + 1) seen y t
 
     w : Written
-    w = Own (own_bundle (hears (events_of q ms) + 1) seen y t)
+    w = Own b
 
-    said_is : (x : ContextId) (f : Field) → value_said x f says ≡ value_for x f y (applied_of t)
-    said_is x f = no_later (value_for x f y (applied_of t))
+    said_is : (x : ContextId) (f : Field) → value_said x f says ≡ value_for x f y u
+    said_is x f = no_later (value_for x f y u)
 
-    not_sent : sends q ≡ []
-    not_sent = ap (λ (b : Bool). if b then [] else if is_told (facts (Counted q ∷ [])) q y then commit_unless_empty y (applied_of t) else []) (eq-eqb q q refl)
+    said_behind : (x : ContextId) (f : Field) → value_said x f (behind facts (length c.types) sends says) ≡ value_for x f y u
+    said_behind x f = sent_said facts (length c.types) sends says x f ∙ said_is x f
+
+    own_sends : sends q ≡ commit_unless_empty y (back c allows q y t ms)
+    own_sends = ap (λ (v : Bool). if v then sent_back ns (facts (Counted q ∷ [])) y else sent_on ns (facts (Counted q ∷ [])) q y t) (eq-eqb q q refl)
 
     honest : IsHonest c.tabs q (bundles_sent q (said ms)) (hears (events_of q ms) + 1) w
-    honest = record { context = y; changes = t; seen = seen; is = refl; held = held; free = free; seen_sent = le }
+    honest = record { context = y; changes = t; seen = seen; is = refl; held = held; allowed = allowed; seen_sent = le }
 
-    itself : Tied c q (behind facts (length c.types) sends says ++ said ms) (did_by q ms) (Accepts (length ms + 1) w ∷ events_of q ms) (length ms + 1)
-    itself = record {
+    more_heard : commits_heard q (behind facts (length c.types) sends says ++ said ms) ≡ commits_heard q (said ms) + 1
+    more_heard = sent_heard facts (length c.types) sends says (said ms) q ∙ ap (λ v. raised v (commits_heard q (said ms))) (eq-eqb q q refl)
+
+    sent_more : (ds : List DownPart) → sends q ≡ ds → bundles_sent q (behind facts (length c.types) sends says ++ said ms) ≡ raised (not (is_no_bundle ds)) (bundles_sent q (said ms))
+    sent_more ds is = sent_at facts (length c.types) sends says (said ms) q lq ∙ ap (λ es. raised (not (is_no_bundle es)) (bundles_sent q (said ms))) is
+
+    -- the parent's answer, by whether anything is sent back
+    by_back : (v : Bool) → list_any is_some (back c allows q y t ms) ≡ v
+        → Tied c q (behind facts (length c.types) sends says ++ said ms) (did_by q ms)
+        (heard_event (length ms + 1) b (Parts (notes.Commit y ns ∷ [])) (if v then downs.Commit y (back c allows q y t ms) ∷ [] else []) ∷ events_of q ms) (length ms + 1)
+    by_back false e = record {
       links = heard c.tabs q (said ms) (behind facts (length c.types) sends says ++ said ms) (did_by q ms) (events_of q ms) (length ms) w (record { rest = rest; is = first })
-          (sent_heard facts (length c.types) sends says (said ms) q ∙ ap (λ b. raised b (commits_heard q (said ms))) (eq-eqb q q refl))
-          (sent_at facts (length c.types) sends says (said ms) q lq ∙ ap (λ ds. raised (not (is_no_bundle ds)) (bundles_sent q (said ms))) not_sent)
-          tq.links;
+          more_heard (sent_more [] (own_sends ∙ ap (λ (z : Bool). if z then downs.Commit y (back c allows q y t ms) ∷ [] else []) e)) tq.links;
       fields = λ x f. field_heard c q x f (said ms) (behind facts (length c.types) sends says) (did_by q ms) (events_of q ms) (length ms) (hears (events_of q ms) + 1) (bundles_sent q (said ms)) w honest
-          (sent_said facts (length c.types) sends says x f ∙ said_is x f ∙ applied_for x f y t ∙ sym (no_later (value_for x f y t))) tq.links (tq.fields x f);
+          (said_behind x f ∙ all_applied c allows q y t ms tq held e x f ∙ sym (no_later (value_for x f y t))) tq.links (tq.fields x f);
+    }
+    by_back true e = record {
+      links = reverted c.tabs q (said ms) (behind facts (length c.types) sends says ++ said ms) (did_by q ms) (events_of q ms) (length ms) w (downs.Commit y (back c allows q y t ms) ∷ [])
+          (record { context = y; changes = back c allows q y t ms; is = refl; held = held }) (record { rest = rest; is = first })
+          more_heard (sent_more (downs.Commit y (back c allows q y t ms) ∷ []) (own_sends ∙ ap (λ (z : Bool). if z then downs.Commit y (back c allows q y t ms) ∷ [] else []) e)) tq.links;
+      fields = λ x f. field_reverted c q x f (said ms) (behind facts (length c.types) sends says) (did_by q ms) (events_of q ms) (length ms) (hears (events_of q ms) + 1) (bundles_sent q (said ms)) w
+          (downs.Commit y (back c allows q y t ms) ∷ []) honest
+          (subst (λ o. WasApplied o (value_said x f (behind facts (length c.types) sends says)) (given (value_for x f y (back c allows q y t ms)) Nothing)
+          ⊎ WasSentBack (value c.tabs x f (said ms)) o (value_said x f (behind facts (length c.types) sends says)) (given (value_for x f y (back c allows q y t ms)) Nothing)) (sym (no_later (value_for x f y t)))
+          (subst (λ o. WasApplied (value_for x f y t) o (given (value_for x f y (back c allows q y t ms)) Nothing)
+          ⊎ WasSentBack (value c.tabs x f (said ms)) (value_for x f y t) o (given (value_for x f y (back c allows q y t ms)) Nothing)) (sym (said_behind x f))
+          (field_judged c allows q y t ms tq held x f)))
+          tq.links (tq.fields x f);
     }
 
-    sends_other : (p == q) ≡ false → sends p ≡ (if is_told (facts (Counted q ∷ [])) p y then commit_unless_empty y (applied_of t) else [])
-    sends_other e = ap (λ (b : Bool). if b then [] else if is_told (facts (Counted q ∷ [])) p y then commit_unless_empty y (applied_of t) else []) e
+    itself : Tied c q (behind facts (length c.types) sends says ++ said ms) (did_by q ms) (heard_event (length ms + 1) b (Parts (notes.Commit y ns ∷ [])) (sends q) ∷ events_of q ms) (length ms + 1)
+    itself =
+        subst (λ ds. Tied c q (behind facts (length c.types) sends says ++ said ms) (did_by q ms) (heard_event (length ms + 1) b (Parts (notes.Commit y ns ∷ [])) ds ∷ events_of q ms) (length ms + 1)) (sym own_sends)
+        (by_back (list_any is_some (back c allows q y t ms)) refl)
+
+    sends_other : (p == q) ≡ false → sends p ≡ sent_on ns (facts (Counted q ∷ [])) p y t
+    sends_other e = ap (λ (v : Bool). if v then sent_back ns (facts (Counted q ∷ [])) y else sent_on ns (facts (Counted q ∷ [])) p y t) e
 
     other : (parts : List DownPart) → (p == q) ≡ false → sends p ≡ parts → AreOneCommit c p parts → TellsAll c p says parts
         → Tied c p (behind facts (length c.types) sends says ++ said ms) (did_by p ms) (told (length ms + 1) (behind facts (length c.types) sends says) (sends p) ∷ events_of p ms) (length ms + 1)
     other parts e is one tells =
-        sending_tied c p (length c.types) ms facts sends says parts lt is (ap (λ b. raised b (commits_heard p (said ms))) e) refl one tells tp
+        sending_tied c p (length c.types) ms facts sends says parts lt is (ap (λ v. raised v (commits_heard p (said ms))) e) refl one tells tp
 
-    by_empty : (b : Bool) → list_any is_some (applied_of t) ≡ b → is_held_at_start c.tabs p y ≡ true → TellsAll c p says (if b then downs.Commit y (applied_of t) ∷ [] else [])
-    by_empty true e held = tells_commit c p says y (applied_of t) held said_is
-    by_empty false e held = tells_empty c p says y (applied_of t) e said_is
+    by_empty : (v : Bool) → list_any is_some u ≡ v → is_held_at_start c.tabs p y ≡ true → TellsAll c p says (if v then downs.Commit y u ∷ [] else [])
+    by_empty true e held = tells_commit c p says y u held said_is
+    by_empty false e held = tells_empty c p says y u e said_is
 
-    by : (b : Bool) → (p == q) ≡ false → is_told (facts (Counted q ∷ [])) p y ≡ b
+    by : (v : Bool) → (p == q) ≡ false → is_told (facts (Counted q ∷ [])) p y ≡ v
         → Tied c p (behind facts (length c.types) sends says ++ said ms) (did_by p ms) (told (length ms + 1) (behind facts (length c.types) sends says) (sends p) ∷ events_of p ms) (length ms + 1)
     by true n e =
         let held : is_held_at_start c.tabs p y ≡ true = sym (told_is_held c.tabs (Counted q ∷ said ms) p y) ∙ e in
-        other (commit_unless_empty y (applied_of t)) n (sends_other n ∙ ap (λ (b : Bool). if b then commit_unless_empty y (applied_of t) else []) e)
-        (empty_commit c p y (applied_of t) (list_any is_some (applied_of t)) held) (by_empty (list_any is_some (applied_of t)) refl held)
+        other (commit_unless_empty y u) n (sends_other n ∙ ap (λ (v : Bool). if v then commit_unless_empty y u else []) e)
+        (empty_commit c p y u (list_any is_some u) held) (by_empty (list_any is_some u) refl held)
     by false n e =
         let free : is_held_at_start c.tabs p y ≡ false = sym (told_is_held c.tabs (Counted q ∷ said ms) p y) ∙ e in
-        other [] n (sends_other n ∙ ap (λ (b : Bool). if b then commit_unless_empty y (applied_of t) else []) e) tt (tells_none c p says y (applied_of t) free said_is)
+        other [] n (sends_other n ∙ ap (λ (v : Bool). if v then commit_unless_empty y u else []) e) tt (tells_none c p says y u free said_is)
 
     -- the events of a process, by whether it is the one that is heard
     next : ℕ → Bool → List ProcessEvent
-    next r b = if b then Accepts (length ms + 1) w ∷ [] else told (length ms + 1) (behind facts (length c.types) sends says) (sends r) ∷ []
+    next r v = if v then heard_event (length ms + 1) b (Parts (notes.Commit y ns ∷ [])) (sends q) ∷ [] else told (length ms + 1) (behind facts (length c.types) sends says) (sends r) ∷ []
 
-    go : (b : Bool) → (p == q) ≡ b → Tied_next c p (hear_moment (length ms + 1) q (own_bundle (hears (events_of q ms) + 1) seen y t) (hear_ruling c q y t ms)) ms
+    go : (v : Bool) → (p == q) ≡ v → Tied_next c p (hear_moment (length ms + 1) q b (hear_ruling c allows q y t ms)) ms
     go true e =
-        subst (λ r. Tied_next c r (hear_moment (length ms + 1) q (own_bundle (hears (events_of q ms) + 1) seen y t) (hear_ruling c q y t ms)) ms) (sym (eqb-true p q e))
-        (subst (λ (b : Bool). Tied c q (behind facts (length c.types) sends says ++ said ms) (did_by q ms) (next q b ++ events_of q ms) (length ms + 1)) (sym (eq-eqb q q refl)) itself)
+        subst (λ r. Tied_next c r (hear_moment (length ms + 1) q b (hear_ruling c allows q y t ms)) ms) (sym (eqb-true p q e))
+        (subst (λ (v : Bool). Tied c q (behind facts (length c.types) sends says ++ said ms) (did_by q ms) (next q v ++ events_of q ms) (length ms + 1)) (sym (eq-eqb q q refl)) itself)
     go false e =
-        subst (λ (b : Bool). Tied c p (behind facts (length c.types) sends says ++ said ms) (did_by p ms) (next p b ++ events_of p ms) (length ms + 1)) (sym e)
+        subst (λ (v : Bool). Tied c p (behind facts (length c.types) sends says ++ said ms) (did_by p ms) (next p v ++ events_of p ms) (length ms + 1)) (sym e)
         (by (is_told (facts (Counted q ∷ [])) p y) e refl)
 
-hear_tied : (c : Config) (p q : ℕ) (ms : List Moment) → p < length c.types → q < length c.types → Tied_behind c p ms → Tied_behind c q ms
-    → Tied_next c p (heard_moment c q ms (writes_waiting (events_of q ms))) ms
-hear_tied c p q ms lt lq tp tq = go (writes_waiting (events_of q ms)) refl tq.links.honest
+hear_tied : (c : Config) (allows : Field → Bool) (p q : ℕ) (ms : List Moment) → p < length c.types → q < length c.types → Tied_behind c p ms → Tied_behind c q ms
+    → Tied_next c p (heard_moment c q ms allows (writes_waiting (events_of q ms))) ms
+hear_tied c allows p q ms lt lq tp tq = go (writes_waiting (events_of q ms)) refl tq.links.honest
   where
-    go : (ws : List Written) → writes_waiting (events_of q ms) ≡ ws → AreHonest c.tabs q (bundles_sent q (said ms)) (hears (events_of q ms) + 1) ws → Tied_next c p (heard_moment c q ms ws) ms
+    go : (ws : List Written) → writes_waiting (events_of q ms) ≡ ws → AreHonest c.tabs q (bundles_sent q (said ms)) (hears (events_of q ms) + 1) ws → Tied_next c p (heard_moment c q ms allows ws) ms
     go [] e all = still c p ms tp
     go (w ∷ ws) e all =
         let h : IsHonest c.tabs q (bundles_sent q (said ms)) (hears (events_of q ms) + 1) w = all.0 in
         let b : UpBundle = own_bundle (hears (events_of q ms) + 1) h.seen h.context h.changes in
-        subst (λ v. Tied_next c p (heard_moment c q ms (v ∷ ws)) ms) (sym h.is)
+        subst (λ v. Tied_next c p (heard_moment c q ms allows (v ∷ ws)) ms) (sym h.is)
         (subst (λ r. Tied_next c p (hear_moment (length ms + 1) q b r) ms)
-        (sym (hear_is c q (hears (events_of q ms) + 1) h.seen h.context h.changes ms h.held h.free (ap (λ k. k + 1) (sym tq.links.heard_are)) h.seen_sent))
-        (hear_commit c p q h.seen h.context h.changes ms ws lt lq h.held h.free h.seen_sent (e ∙ ap (λ v. v ∷ ws) h.is) tp tq))
+        (sym (hear_is c allows q (hears (events_of q ms) + 1) h.seen h.context h.changes ms h.held h.allowed (ap (λ k. k + 1) (sym tq.links.heard_are)) h.seen_sent))
+        (hear_commit c allows p q h.seen h.context h.changes ms ws lt lq h.held h.allowed h.seen_sent (e ∙ ap (λ v. v ∷ ws) h.is) tp tq))
 
 -- ---- each step
 
 act_fits : (c : Config) (p q : ℕ) (action : Action) (ms : List Moment) → IsPlayedByProcess action → Tied_behind c p ms → Tied_behind c q ms → Tied_next c p (act_moment c q action ms) ms
-act_fits c p q (own.Set x t) ms free tp tq = act_tied c p q x t ms free tp tq
-act_fits c p q _ ms free tp tq = absurd free
+act_fits c p q (own.Set x t) ms played tp tq = act_tied c p q x t ms tp tq
+act_fits c p q _ ms played tp tq = absurd played
 
 parent_fits : (c : Config) (p : ℕ) (action : ParentAction) (ms : List Moment) → p < length c.types → IsPlayed action → Tied_behind c p ms
     → Tied_next c p (parent_moment (length ms + 1) (parents.action_ruling (λ says. asked c.tabs (says ++ said ms)) (λ y says. y ∷ says) (length c.types) action [])) ms
 parent_fits c p (Set x t) ms lt played tp = set_tied c p x t ms lt tp
 parent_fits c p _ ms lt played tp = absurd played
 
-step_tied : (c : Config) (s : Step) (ms : List Moment) → StepFits (length c.types) s → ((q : ℕ) → q < length c.types → Tied_behind c q ms) → (p : ℕ) → p < length c.types
-    → Tied_next c p (moment c ms s) ms
-step_tied c (Act q action) ms fits all p lt = act_fits c p q.0 action ms fits.played (all p lt) (all q.0 fits.process)
-step_tied c (Take q) ms fits all p lt = take_tied c p q.0 ms (all p lt) (all q.0 fits)
-step_tied c (ParentAct action) ms fits all p lt = parent_fits c p action ms lt fits (all p lt)
-step_tied c (Hear q) ms fits all p lt = hear_tied c p q.0 ms lt fits (all p lt) (all q.0 fits)
+step_tied : (c : Config) (allows : Field → Bool) (s : Step) (ms : List Moment) → StepFits (length c.types) s → ((q : ℕ) → q < length c.types → Tied_behind c q ms) → (p : ℕ) → p < length c.types
+    → Tied_next c p (moment c ms allows s) ms
+step_tied c allows (Act q action) ms fits all p lt = act_fits c p q.0 action ms fits.played (all p lt) (all q.0 fits.process)
+step_tied c allows (Take q) ms fits all p lt = take_tied c p q.0 ms (all p lt) (all q.0 fits)
+step_tied c allows (ParentAct action) ms fits all p lt = parent_fits c p action ms lt fits (all p lt)
+step_tied c allows (Hear q) ms fits all p lt = hear_tied c allows p q.0 ms lt fits (all p lt) (all q.0 fits)
 
--- the ties hold of each process, behind steps that can be played
-pub tied : (c : Config) (steps : List Step) → AllByRecursion (StepFits (length c.types)) steps → (p : ℕ) → p < length c.types → Tied_behind c p (moments c steps)
-unfolding moments
+-- the ties hold of each process, behind entries whose steps can be played
+pub tied : (c : Config) (j : Journal) → AllByRecursion (StepFits (length c.types)) (steps_of j) → (p : ℕ) → p < length c.types → Tied_behind c p (moments_of c j)
+unfolding moments_of
 tied c [] fit p lt = record { links = none_yet c.tabs p; fields = field_start c p }
-tied c (s ∷ steps) fit p lt =
-    subst (λ n. Tied c p ((moment c (moments c steps) s).says ++ said (moments c steps)) ((moment c (moments c steps) s).did p ++ did_by p (moments c steps))
-    ((moment c (moments c steps) s).events p ++ events_of p (moments c steps)) n) (omega arith)
-    (step_tied c s (moments c steps) fit.0 (tied c steps fit.1) p lt)
+tied c (e ∷ older) fit p lt =
+    let ms : List Moment = moments_of c older in
+    let m : Moment = moment c ms (told_allowed e.answer) e.step in
+    subst (λ n. Tied c p (m.says ++ said ms) (m.did p ++ did_by p ms) (m.events p ++ events_of p ms) n) (omega arith)
+    (step_tied c (told_allowed e.answer) e.step ms fit.0 (tied c older fit.1) p lt)

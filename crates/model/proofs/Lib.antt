@@ -1,4 +1,3 @@
-pub mod TiesFields
 pub mod TiesStart
 pub mod TiesSending
 pub mod TiesValues
@@ -15,3 +14,5 @@ pub mod Falls
 pub mod RoundsGoes
 pub mod Rounds
 pub mod Refused
+pub mod ReadBack
+pub mod Reverted

@@ -1,6 +1,7 @@
 -- A refused step changes nothing but the journal.
-use Rattle.std.proofs.Common.{◌≡◌, ℕ, zero, suc, ◌==◌, Bool, true, false, cond, if◌then◌else◌, List, [], ◌∷◌, ◌++◌, ◌+◌, length, map, Option, None, Some, refl, sym, ap, subst, ◌∙◌}
+use Rattle.std.proofs.Common.{◌≡◌, ℕ, zero, suc, ◌==◌, Bool, true, false, cond, if◌then◌else◌, List, [], ◌∷◌, ◌++◌, ◌+◌, length, map, Option, None, Some, refl, ap}
 use Rattle.std.specs.Option.{option_map_or}
+use Rattle.field_table.specs.declared.field.Field.{Field}
 use Rattle.wire_msgs.specs.declared.action.Action.{Action}
 use Rattle.wire_msgs.specs.declared.action.Action.TheVariants as own
 use Rattle.wire_msgs.specs.declared.action.ParentAction.{ParentAction}
@@ -12,7 +13,6 @@ use Rattle.wire_msgs.specs.declared.config.Config.{Config}
 use Rattle.wire_msgs.specs.declared.bundle.UpBundle.{UpBundle}
 use Rattle.wire_msgs.specs.declared.part.DownPart.{DownPart}
 use Rattle.wire_msgs.specs.declared.refusal.Refusal.{Refusal}
-use Rattle.journal.specs.declared.entry.Step.{Step}
 use Rattle.journal.specs.declared.entry.Step.TheVariants.{Act, Take, ParentAct, Hear}
 use Rattle.protocol.specs.Questions.{Facts}
 use Rattle.protocol.specs.Sayings.{Saying}
@@ -31,8 +31,8 @@ use Rattle.protocol.specs.Take.{bundle_sent}
 use Rattle.traces.specs.Event.{Bundle}
 use Rattle.traces.specs.Links.{writes_waiting, bundles_waiting}
 use Rattle.model.specs.Laws.{is_refused, Unchanged, RefusedChangesNothing}
-use Rattle.model.specs.Links.{own_bundles, up_waiting, down_waiting}
-use Rattle.model.specs.Moments.{Moment, Written, ProcessEvent, said, did_by, events_of, facts_now, seen_now, for_one, written, told, down_bundle, only_answer, act_moment, taken_moment, parent_moment, heard_moment, moment}
+use Rattle.model.specs.Links.{own_bundles}
+use Rattle.model.specs.Moments.{Moment, Written, ProcessEvent, said, did_by, events_of, facts_now, seen_now, for_one, written, down_bundle, act_moment, taken_moment, parent_moment, heard_moment}
 use Rattle.model.specs.Moments.Written.{Own, Said}
 use Rattle.model.specs.Parent.{asked}
 use Rattle.model.specs.Process.{own_asked}
@@ -146,22 +146,22 @@ either_end s done ended one two three true o = one
 either_end s done ended one two three false None = two
 either_end s done ended one two three false (Some cause) = three cause
 
-bundle_answer : (facts : List Saying → Facts) (n p : ℕ) (b : UpBundle) → is_refused (bundle_ruling facts (λ y says. y ∷ says) n (λ fld. false) p b []).answer ≡ false
-bundle_answer facts n p b =
+bundle_answer : (allows : Field → Bool) (facts : List Saying → Facts) (n p : ℕ) (b : UpBundle) → is_refused (bundle_ruling facts (λ y says. y ∷ says) n allows p b []).answer ≡ false
+bundle_answer allows facts n p b =
     let counted : List Saying = if is_counted (facts []) p b then Counted p ∷ [] else [] in
-    either_end (ruling facts (λ y says. y ∷ says) n Ignored (λ q. []) []) (parts_ruling facts (λ y says. y ∷ says) n (λ fld. false) p b counted) (λ cause. end_ruling facts (λ y says. y ∷ says) n p cause counted)
+    either_end (ruling facts (λ y says. y ∷ says) n Ignored (λ q. []) []) (parts_ruling facts (λ y says. y ∷ says) n allows p b counted) (λ cause. end_ruling facts (λ y says. y ∷ says) n p cause counted)
     refl refl (λ cause. refl) (is_some ((facts []).processes.ended p))
-    (or_later (envelope_fault (facts []) p b) (first_fault (hear_rules (λ fld. false) p p) facts (λ y says. y ∷ says) 1 counted b.parts))
+    (or_later (envelope_fault (facts []) p b) (first_fault (hear_rules allows p p) facts (λ y says. y ∷ says) 1 counted b.parts))
 
-hear_refused : (c : Config) (p : ℕ) (ms : List Moment) (ws : List Written) → is_refused (heard_moment c p ms ws).answer ≡ true → Unchanged c (heard_moment c p ms ws) ms
-hear_refused c p ms [] e = silent c (heard_moment c p ms []) ms refl (λ q. refl) (λ q. refl)
-hear_refused c p ms (Said says ∷ ws) e = silent c (heard_moment c p ms (Said says ∷ ws)) ms refl (λ q. refl) (λ q. refl)
-hear_refused c p ms (Own b ∷ ws) e =
-    let no_refusal : is_refused (bundle_ruling (λ says. asked c.tabs (says ++ said ms)) (λ y says. y ∷ says) (length c.types) (λ fld. false) p b []).answer ≡ false =
-    bundle_answer (λ says. asked c.tabs (says ++ said ms)) (length c.types) p b in cc
+hear_refused : (c : Config) (p : ℕ) (ms : List Moment) (allows : Field → Bool) (ws : List Written) → is_refused (heard_moment c p ms allows ws).answer ≡ true → Unchanged c (heard_moment c p ms allows ws) ms
+hear_refused c p ms allows [] e = silent c (heard_moment c p ms allows []) ms refl (λ q. refl) (λ q. refl)
+hear_refused c p ms allows (Said says ∷ ws) e = silent c (heard_moment c p ms allows (Said says ∷ ws)) ms refl (λ q. refl) (λ q. refl)
+hear_refused c p ms allows (Own b ∷ ws) e =
+    let no_refusal : is_refused (bundle_ruling (λ says. asked c.tabs (says ++ said ms)) (λ y says. y ∷ says) (length c.types) allows p b []).answer ≡ false =
+    bundle_answer allows (λ says. asked c.tabs (says ++ said ms)) (length c.types) p b in cc
 
 pub refused_still : RefusedChangesNothing
-refused_still c ms (Act p action) e = acts_refused c p.0 action ms e
-refused_still c ms (Take p) e = take_refused c p.0 ms (bundles_waiting (events_of p.0 ms)) e
-refused_still c ms (ParentAct action) e = parent_refused c (length ms + 1) action ms e
-refused_still c ms (Hear p) e = hear_refused c p.0 ms (writes_waiting (events_of p.0 ms)) e
+refused_still c ms allows (Act p action) e = acts_refused c p.0 action ms e
+refused_still c ms allows (Take p) e = take_refused c p.0 ms (bundles_waiting (events_of p.0 ms)) e
+refused_still c ms allows (ParentAct action) e = parent_refused c (length ms + 1) action ms e
+refused_still c ms allows (Hear p) e = hear_refused c p.0 ms allows (writes_waiting (events_of p.0 ms)) e

@@ -1,6 +1,7 @@
 -- What settling does, one process after the other: entries come, and what waits weighs as much less at least.
 use Rattle.std.proofs.Common.{◌≡◌, ℕ, zero, suc, ◌+◌, ◌-◌, ◌<◌, ◌≤◌, true, not, ◌&&◌, if◌then◌else◌, List, [], ◌∷◌, ◌++◌, length, map, refl, ap, sym, subst, ◌∙◌, arith, append_assoc, length-append}
 use Rattle.std.specs.List.{AllByRecursion}
+use Rattle.field_rules.specs.Bounds.{Bounds}
 use Rattle.wire_msgs.specs.declared.part.DownPart.{DownPart}
 use Rattle.journal.specs.Step.{StepFits}
 use Rattle.journal.specs.declared.entry.Step.{Step}
@@ -13,7 +14,7 @@ use Rattle.model.specs.Laws.{RunFits}
 use Rattle.model.specs.Links.{own_bundles, is_nothing}
 use Rattle.model.specs.Moments.{Written, events_of, down_bundle}
 use Rattle.model.specs.Moments.Written.{Own, Said}
-use Rattle.model.specs.Next.{Run, run_after, answer_of}
+use Rattle.model.specs.Next.{Run, run_after, moment_after}
 use Rattle.model.specs.Settling.{weight, moments_in, heard_by, taken_by, all_served, round, IsServed, Extends}
 use Rattle.model.proofs.WeightsLinks.{IsOwnCommit, waiting_own}
 use Rattle.model.proofs.Falls.{run_lights, hear_lowers, take_lowers}
@@ -55,113 +56,114 @@ goes_on r r' r'' first later = record {
   extends = extends_on r.journal r'.journal r''.journal first.extends later.extends;
 }
 
--- a step that takes from the weight
-pub goes_step : (r : Run) (s : Step) → RunFits r → StepFits (length r.config.types) s → weight (run_after r s) + 1 ≤ weight r → Goes r (run_after r s)
-goes_step r s fits fit lower = record {
-  config = refl;
-  fits = record { config = fits.config; steps = (fit, fits.steps) };
-  falls = omega arith;
-  still = λ same. absurd (omega (arith, same));
-  extends = record { added = record { step = s; answer = answer_of r.config r.journal s } ∷ []; is = refl };
-}
-
--- ---- one process
-
-hear_of : (r : Run) (p : ℕ) (w : List Written) → RunFits r → p < length r.config.types → writes_waiting (events_of p (moments_in r)) ≡ w → AllByRecursion IsOwnCommit w
-    → Goes r (if is_nothing (own_bundles w) then r else run_after r (Hear (record { 0 = p })))
-hear_of r p [] fits below first own = goes_nowhere r fits
-hear_of r p (Own b ∷ ws) fits below first own = goes_step r (Hear (record { 0 = p })) fits below (hear_lowers r p b ws fits below first)
-hear_of r p (Said says ∷ ws) fits below first own = absurd own.0
-
-pub goes_heard : (p : ℕ) (r : Run) → RunFits r → p < length r.config.types → Goes r (heard_by p r)
-goes_heard p r fits below = hear_of r p (writes_waiting (events_of p (moments_in r))) fits below refl (waiting_own (events_of p (moments_in r)) (run_lights r fits p))
-
-take_of : (r : Run) (p : ℕ) (w : List (Bundle (List DownPart))) → RunFits r → p < length r.config.types → bundles_waiting (events_of p (moments_in r)) ≡ w
-    → Goes r (if true && not (is_nothing (map down_bundle w)) then run_after r (Take (record { 0 = p })) else r)
-take_of r p [] fits below first = goes_nowhere r fits
-take_of r p (b ∷ bs) fits below first = goes_step r (Take (record { 0 = p })) fits below (take_lowers r p b bs fits below first)
-
-pub goes_taken : (p : ℕ) (r : Run) → RunFits r → p < length r.config.types → Goes r (taken_by p r)
-goes_taken p r fits below = take_of r p (bundles_waiting (events_of p (moments_in r))) fits below refl
-
 -- what is below the number of processes still is
 pub still_below : (p : ℕ) (r r' : Run) → Goes r r' → p < length r.config.types → p < length r'.config.types
 still_below p r r' goes below = subst (λ c. p < length c.types) (sym goes.config) below
-
-pub goes_served : (p : ℕ) (r : Run) → RunFits r → p < length r.config.types → Goes r (taken_by p (heard_by p r))
-goes_served p r fits below =
-    let heard : Goes r (heard_by p r) = goes_heard p r fits below in
-    goes_on r (heard_by p r) (taken_by p (heard_by p r)) heard (goes_taken p (heard_by p r) heard.fits (still_below p r (heard_by p r) heard below))
-
--- a turn more
-pub goes_turn : (p : ℕ) (start r next : Run) → Goes start r → p < length start.config.types → next ≡ taken_by p (heard_by p r) → Goes start next
-goes_turn p start r next goes below is =
-    let turn : Goes r (taken_by p (heard_by p r)) = goes_served p r goes.fits (still_below p start r goes below) in
-    subst (Goes start) (sym is) (goes_on start r (taken_by p (heard_by p r)) goes turn)
 
 -- a limit on entries and weight together is kept
 pub room_kept : (r r' : Run) (limit : ℕ) → Goes r r' → length r.journal + weight r < limit → length r'.journal + weight r' < limit
 room_kept r r' limit goes room = omega (arith, goes.falls)
 
--- ---- one after the other
-
-pub goes_all : (ps : List ℕ) (n : ℕ) (r : Run) → RunFits r → length r.config.types ≡ n → AllByRecursion (λ p. p < n) ps → Goes r (all_served ps r)
-unfolding all_served
-goes_all [] n r fits count below = goes_nowhere r fits
-goes_all (p ∷ ps) n r fits count below =
-    let one : Goes r (taken_by p (heard_by p r)) = goes_served p r fits (omega (arith, below.0)) in
-    let same : length (taken_by p (heard_by p r)).config.types ≡ n = ap (λ c. length c.types) one.config ∙ count in
-    goes_on r (taken_by p (heard_by p r)) (all_served ps (taken_by p (heard_by p r))) one (goes_all ps n (taken_by p (heard_by p r)) one.fits same below.1)
-
 pub numbers_below : (k m n : ℕ) → k + m ≤ n → AllByRecursion (λ p. p < n) (numbers k m)
 numbers_below k zero n within = tt
 numbers_below k (suc m) n within = (omega arith, numbers_below (suc k) m n (omega arith))
 
-pub goes_round : (r : Run) → RunFits r → Goes r (round r)
-goes_round r fits = goes_all (numbers 0 (length r.config.types)) (length r.config.types) r fits refl (numbers_below 0 (length r.config.types) (length r.config.types) (omega arith))
+module _ (bounds : Bounds) where
+  -- a step that takes from the weight
+  pub goes_step : (r : Run) (s : Step) → RunFits r → StepFits (length r.config.types) s → weight (run_after bounds r s) + 1 ≤ weight r → Goes r (run_after bounds r s)
+  goes_step r s fits fit lower = record {
+    config = refl;
+    fits = record { config = fits.config; steps = (fit, fits.steps) };
+    falls = omega arith;
+    still = λ same. absurd (omega (arith, same));
+    extends = record { added = record { step = s; answer = (moment_after bounds r.config r.journal s).answer } ∷ []; is = refl };
+  }
 
--- ---- the loop over processes, one at a time
+  -- ---- one process
 
-pub served_none : (k : ℕ) (r : Run) → all_served (numbers k 0) r ≡ r
-unfolding all_served
-served_none k r = refl
+  hear_of : (r : Run) (p : ℕ) (w : List Written) → RunFits r → p < length r.config.types → writes_waiting (events_of p (moments_in r)) ≡ w → AllByRecursion IsOwnCommit w
+      → Goes r (if is_nothing (own_bundles w) then r else run_after bounds r (Hear (record { 0 = p })))
+  hear_of r p [] fits below first own = goes_nowhere r fits
+  hear_of r p (Own b ∷ ws) fits below first own = goes_step r (Hear (record { 0 = p })) fits below (hear_lowers bounds r p b ws fits below first)
+  hear_of r p (Said says ∷ ws) fits below first own = absurd own.0
 
-pub served_first : (k m : ℕ) (r : Run) → all_served (numbers k (suc m)) r ≡ all_served (numbers (suc k) m) (taken_by k (heard_by k r))
-unfolding all_served
-served_first k m r = refl
+  pub goes_heard : (p : ℕ) (r : Run) → RunFits r → p < length r.config.types → Goes r (heard_by bounds p r)
+  goes_heard p r fits below = hear_of r p (writes_waiting (events_of p (moments_in r))) fits below refl (waiting_own (events_of p (moments_in r)) (run_lights r fits p))
 
--- the turn of process p, of n
-pub served_next : (p n : ℕ) (r next all : Run) → p < n → all_served (numbers p (n - p)) r ≡ all → next ≡ taken_by p (heard_by p r) → all_served (numbers (p + 1) (n - (p + 1))) next ≡ all
-served_next p n r next all below so_far is =
-    let after : suc p ≡ p + 1 = omega arith in
-    let left : n - p ≡ suc (n - (p + 1)) = omega arith in
-    let here : all_served (numbers p (n - p)) r ≡ all_served (numbers (p + 1) (n - (p + 1))) (taken_by p (heard_by p r)) =
-    ap (λ m. all_served (numbers p m) r) left ∙ served_first p (n - (p + 1)) r ∙ ap (λ k. all_served (numbers k (n - (p + 1))) (taken_by p (heard_by p r))) after in
-    ap (all_served (numbers (p + 1) (n - (p + 1)))) is ∙ sym here ∙ so_far
+  take_of : (r : Run) (p : ℕ) (w : List (Bundle (List DownPart))) → RunFits r → p < length r.config.types → bundles_waiting (events_of p (moments_in r)) ≡ w
+      → Goes r (if true && not (is_nothing (map down_bundle w)) then run_after bounds r (Take (record { 0 = p })) else r)
+  take_of r p [] fits below first = goes_nowhere r fits
+  take_of r p (b ∷ bs) fits below first = goes_step r (Take (record { 0 = p })) fits below (take_lowers bounds r p b bs fits below first)
 
--- behind the last process
-pub served_all : (p n : ℕ) (r all : Run) → n ≤ p → all_served (numbers p (n - p)) r ≡ all → r ≡ all
-served_all p n r all past so_far =
-    let none : 0 ≡ n - p = omega arith in
-    sym (served_none p r) ∙ ap (λ m. all_served (numbers p m) r) none ∙ so_far
+  pub goes_taken : (p : ℕ) (r : Run) → RunFits r → p < length r.config.types → Goes r (taken_by bounds p r)
+  goes_taken p r fits below = take_of r p (bundles_waiting (events_of p (moments_in r))) fits below refl
 
--- ---- what is served
+  pub goes_served : (p : ℕ) (r : Run) → RunFits r → p < length r.config.types → Goes r (taken_by bounds p (heard_by bounds p r))
+  goes_served p r fits below =
+      let heard : Goes r (heard_by bounds p r) = goes_heard p r fits below in
+      goes_on r (heard_by bounds p r) (taken_by bounds p (heard_by bounds p r)) heard (goes_taken p (heard_by bounds p r) heard.fits (still_below p r (heard_by bounds p r) heard below))
 
-adds_entry : (r : Run) (s : Step) → run_after r s ≡ r → ⊥
-adds_entry r s same = let len : length (run_after r s).journal ≡ length r.journal = ap (λ x. length x.journal) same in omega (arith, len)
+  -- a turn more
+  pub goes_turn : (p : ℕ) (start r next : Run) → Goes start r → p < length start.config.types → next ≡ taken_by bounds p (heard_by bounds p r) → Goes start next
+  goes_turn p start r next goes below is =
+      let turn : Goes r (taken_by bounds p (heard_by bounds p r)) = goes_served p r goes.fits (still_below p start r goes below) in
+      subst (Goes start) (sym is) (goes_on start r (taken_by bounds p (heard_by bounds p r)) goes turn)
 
-none_up : (r : Run) (p : ℕ) (w : List Written) → AllByRecursion IsOwnCommit w → (if is_nothing (own_bundles w) then r else run_after r (Hear (record { 0 = p }))) ≡ r → own_bundles w ≡ []
-none_up r p [] own same = refl
-none_up r p (Own b ∷ ws) own same = absurd (adds_entry r (Hear (record { 0 = p })) same)
-none_up r p (Said says ∷ ws) own same = absurd own.0
+  -- ---- one after the other
 
-none_down : (r : Run) (p : ℕ) (w : List (Bundle (List DownPart))) → (if true && not (is_nothing (map down_bundle w)) then run_after r (Take (record { 0 = p })) else r) ≡ r → map down_bundle w ≡ []
-none_down r p [] same = refl
-none_down r p (b ∷ bs) same = absurd (adds_entry r (Take (record { 0 = p })) same)
+  pub goes_all : (ps : List ℕ) (n : ℕ) (r : Run) → RunFits r → length r.config.types ≡ n → AllByRecursion (λ p. p < n) ps → Goes r (all_served bounds ps r)
+  unfolding all_served
+  goes_all [] n r fits count below = goes_nowhere r fits
+  goes_all (p ∷ ps) n r fits count below =
+      let one : Goes r (taken_by bounds p (heard_by bounds p r)) = goes_served p r fits (omega (arith, below.0)) in
+      let same : length (taken_by bounds p (heard_by bounds p r)).config.types ≡ n = ap (λ c. length c.types) one.config ∙ count in
+      goes_on r (taken_by bounds p (heard_by bounds p r)) (all_served bounds ps (taken_by bounds p (heard_by bounds p r))) one (goes_all ps n (taken_by bounds p (heard_by bounds p r)) one.fits same below.1)
 
--- where serving a process does nothing, nothing waits for it
-pub served_still : (p : ℕ) (r : Run) → RunFits r → heard_by p r ≡ r → taken_by p r ≡ r → IsServed p r
-served_still p r fits heard taken = record {
-  up = none_up r p (writes_waiting (events_of p (moments_in r))) (waiting_own (events_of p (moments_in r)) (run_lights r fits p)) heard;
-  down = λ running. none_down r p (bundles_waiting (events_of p (moments_in r))) taken;
-}
+  pub goes_round : (r : Run) → RunFits r → Goes r (round bounds r)
+  goes_round r fits = goes_all (numbers 0 (length r.config.types)) (length r.config.types) r fits refl (numbers_below 0 (length r.config.types) (length r.config.types) (omega arith))
+
+  -- ---- the loop over processes, one at a time
+
+  pub served_none : (k : ℕ) (r : Run) → all_served bounds (numbers k 0) r ≡ r
+  unfolding all_served
+  served_none k r = refl
+
+  pub served_first : (k m : ℕ) (r : Run) → all_served bounds (numbers k (suc m)) r ≡ all_served bounds (numbers (suc k) m) (taken_by bounds k (heard_by bounds k r))
+  unfolding all_served
+  served_first k m r = refl
+
+  -- the turn of process p, of n
+  pub served_next : (p n : ℕ) (r next all : Run) → p < n → all_served bounds (numbers p (n - p)) r ≡ all → next ≡ taken_by bounds p (heard_by bounds p r) → all_served bounds (numbers (p + 1) (n - (p + 1))) next ≡ all
+  served_next p n r next all below so_far is =
+      let after : suc p ≡ p + 1 = omega arith in
+      let left : n - p ≡ suc (n - (p + 1)) = omega arith in
+      let here : all_served bounds (numbers p (n - p)) r ≡ all_served bounds (numbers (p + 1) (n - (p + 1))) (taken_by bounds p (heard_by bounds p r)) =
+      ap (λ m. all_served bounds (numbers p m) r) left ∙ served_first p (n - (p + 1)) r ∙ ap (λ k. all_served bounds (numbers k (n - (p + 1))) (taken_by bounds p (heard_by bounds p r))) after in
+      ap (all_served bounds (numbers (p + 1) (n - (p + 1)))) is ∙ sym here ∙ so_far
+
+  -- behind the last process
+  pub served_all : (p n : ℕ) (r all : Run) → n ≤ p → all_served bounds (numbers p (n - p)) r ≡ all → r ≡ all
+  served_all p n r all past so_far =
+      let none : 0 ≡ n - p = omega arith in
+      sym (served_none p r) ∙ ap (λ m. all_served bounds (numbers p m) r) none ∙ so_far
+
+  -- ---- what is served
+
+  adds_entry : (r : Run) (s : Step) → run_after bounds r s ≡ r → ⊥
+  adds_entry r s same = let len : length (run_after bounds r s).journal ≡ length r.journal = ap (λ x. length x.journal) same in omega (arith, len)
+
+  none_up : (r : Run) (p : ℕ) (w : List Written) → AllByRecursion IsOwnCommit w → (if is_nothing (own_bundles w) then r else run_after bounds r (Hear (record { 0 = p }))) ≡ r → own_bundles w ≡ []
+  none_up r p [] own same = refl
+  none_up r p (Own b ∷ ws) own same = absurd (adds_entry r (Hear (record { 0 = p })) same)
+  none_up r p (Said says ∷ ws) own same = absurd own.0
+
+  none_down : (r : Run) (p : ℕ) (w : List (Bundle (List DownPart))) → (if true && not (is_nothing (map down_bundle w)) then run_after bounds r (Take (record { 0 = p })) else r) ≡ r → map down_bundle w ≡ []
+  none_down r p [] same = refl
+  none_down r p (b ∷ bs) same = absurd (adds_entry r (Take (record { 0 = p })) same)
+
+  -- where serving a process does nothing, nothing waits for it
+  pub served_still : (p : ℕ) (r : Run) → RunFits r → heard_by bounds p r ≡ r → taken_by bounds p r ≡ r → IsServed p r
+  served_still p r fits heard taken = record {
+    up = none_up r p (writes_waiting (events_of p (moments_in r))) (waiting_own (events_of p (moments_in r)) (run_lights r fits p)) heard;
+    down = λ running. none_down r p (bundles_waiting (events_of p (moments_in r))) taken;
+  }

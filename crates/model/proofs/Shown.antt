@@ -1,5 +1,5 @@
 -- What holds between a field's trace and what is answered of the field, on both sides.
-use Rattle.std.proofs.Common.{◌≡◌, ℕ, ◌+◌, Bool, true, false, not, ◌&&◌, if◌then◌else◌, Option, None, Some, is_some, List, [], ◌∷◌, ◌++◌, refl, ap, ap₂, sym, subst, ◌∙◌, arith}
+use Rattle.std.proofs.Common.{◌≡◌, ◌⊎◌, inl, inr, ℕ, ◌+◌, Bool, true, false, not, ◌&&◌, if◌then◌else◌, Option, None, Some, is_some, List, [], ◌∷◌, ◌++◌, refl, ap, ap₂, sym, subst, ◌∙◌, arith}
 use Rattle.std.specs.Prelude.{nat_lt}
 use Rattle.fission_ids.specs.declared.context.ContextId.{ContextId}
 use Rattle.fission_ids.specs.Ids.{same_context}
@@ -20,9 +20,9 @@ use Rattle.protocol.specs.Seen.Doing.{Wrote, Given, Took}
 use Rattle.protocol.specs.Start.{is_live, is_held_at_start, some_if}
 use Rattle.protocol.specs.Take.{taken_mark, taken_notes}
 use Rattle.traces.specs.Event.{Bundle}
-use Rattle.traces.specs.Event.Event.{Writes, Sends, Takes, Accepts, Changes as OthersChange}
+use Rattle.traces.specs.Event.Event.{Writes, Sends, Takes, Accepts, Reverts, Changes as OthersChange}
 use Rattle.traces.specs.Links.{last_write}
-use Rattle.traces.specs.Field.{Trace, trace_for}
+use Rattle.traces.specs.Field.{Content, Trace, trace_for, reverted_for}
 use Rattle.traces.specs.Field.Content.{Nothing, Gives}
 use Rattle.traces.specs.Words.{Start, Stage, or_else, latest_number, stage, stage_served, while_held}
 use Rattle.traces.specs.Words.Stage.{Held, Coming, Gone}
@@ -37,8 +37,8 @@ use Rattle.model.specs.Moments.Written.{Own, Said}
 use Rattle.model.specs.Parent as parent
 use Rattle.model.specs.Process.{value, newest, own_asked}
 use Rattle.model.specs.View.{value_for, value_said, value_written, given, content_of, look, begin}
-use Rattle.model.proofs.TiesFields.{marked_value}
-use Rattle.model.proofs.TiesStart.{same_context_is}
+use Rattle.protocol.proofs.Notes.{marked_value}
+use Rattle.model.proofs.TiesStart.{same_context_is, held_live}
 use Rattle.model.proofs.TiesTrace.{AreSimple, content_plain, number_plain, stage_is, served_is, written_is, judged, where_all, where_none}
 use Rattle.model.proofs.TiesValues.{no_later, or_value, value_more, none_for, given_nothing}
 use Rattle.model.proofs.Ties.{Ties, IsHonest, own_bundle}
@@ -249,3 +249,89 @@ field_heard c p x f says new did evs n k sent w honest said ties ft = record {
     go false free =
         where_none (value_written x f w) (Judges (begin c p x f) (trace_of x f evs))
         (ap (value_written x f) honest.is ∙ no_later (value_for x f honest.context honest.changes) ∙ none_for c.tabs p x f honest.context honest.changes honest.held free)
+
+-- ---- the parent sends something back
+
+-- all that a commit has for a field was applied, and nothing is sent back
+pub record WasApplied (w u : Option Value) (c : Content Value) : Type 0 where
+  pub nothing : c ≡ Nothing
+  pub said : u ≡ w
+
+-- nothing of it was, and the parent's value is sent back
+pub record WasSentBack (now w u : Option Value) (c : Content Value) : Type 0 where
+  pub value : Value
+  pub back : Value
+  pub written : w ≡ Some value
+  pub gives : c ≡ Gives back
+  pub present : now ≡ Some back
+  pub said : u ≡ None
+
+some_is : (v w : Value) → Some v ≡ Some w → v ≡ w
+some_is v w e = cc
+
+-- a trace, and one with a hear more of which u was applied
+record Answered (start : Start Value) (u : Option Value) (h g : Trace Value) : Type 0 where
+  pub fits : Fits start g
+  pub newest : words.newest g ≡ words.newest h
+  pub shown : replay start g ≡ replay start h
+  pub value : words.value start.initial g ≡ or_else u (words.value start.initial h)
+
+answer_applied : (start : Start Value) (k : ℕ) (w : Option Value) (h : Trace Value) → Where w (Judges start h) → Fits start h → Answered start w h (reverted_for k w Nothing h)
+answer_applied start k None h judges fits = record { fits = ((λ alive. tt), ((λ alive. tt), fits)); newest = refl; shown = refl; value = refl }
+answer_applied start k (Some v) h judges fits = record { fits = ((λ alive. tt), ((λ alive. judges), fits)); newest = refl; shown = refl; value = refl }
+
+answer_sent_back : (start : Start Value) (k : ℕ) (v back : Value) (h : Trace Value) → back ≡ words.value start.initial h → Judges start h → Fits start h → Answered start None h (reverted_for k (Some v) (Gives back) h)
+answer_sent_back start k v back h is judges fits = record {
+  fits = (record { of_write = refl; back = ap Gives is; judged = λ alive. judges }, fits);
+  newest = refl;
+  shown = refl;
+  value = refl;
+}
+
+pub field_reverted : (c : Config) (p : ℕ) (x : ContextId) (f : Field) (says new : List Saying) (did : List Doing) (evs : List ProcessEvent) (n k sent : ℕ) (w : Written) (parts : List DownPart)
+    → IsHonest c.tabs p sent k w
+    → (WasApplied (value_written x f w) (value_said x f new) (content_of x f parts) ⊎ WasSentBack (parent.value c.tabs x f says) (value_written x f w) (value_said x f new) (content_of x f parts))
+    → Ties c.tabs p says did evs n → FieldTies c p x f says did evs
+    → FieldTies c p x f (new ++ says) did (Reverts (n + 1) w parts ∷ evs)
+field_reverted c p x f says new did evs n k sent w parts honest either ties ft = go either
+  where
+    judges : is_held_at_start c.tabs p x ≡ true → Judges (begin c p x f) (trace_of x f evs)
+    judges held = judged (begin c p x f) x f evs ties.simple ties.flows ties.rises ft.apart (begin_held c p x f held)
+
+    unwritten : is_held_at_start c.tabs p x ≡ false → value_written x f w ≡ None
+    unwritten free = ap (value_written x f) honest.is ∙ no_later (value_for x f honest.context honest.changes) ∙ none_for c.tabs p x f honest.context honest.changes honest.held free
+
+    done : (u : Option Value) → value_said x f new ≡ u → Answered (begin c p x f) u (trace_of x f evs) (reverted_for (n + 1) (value_written x f w) (content_of x f parts) (trace_of x f evs))
+        → FieldTies c p x f (new ++ says) did (Reverts (n + 1) w parts ∷ evs)
+    done u said a = record {
+      apart = ft.apart;
+      fits = a.fits;
+      newest_is = ft.newest_is ∙ sym a.newest;
+      shown = ft.shown ∙ sym a.shown;
+      told = λ live. value_told c.tabs x f new says u (words.value (initial f) (trace_of x f evs)) said (ft.told live) ∙ ap Some (sym a.value);
+    }
+
+    if_judged : (b : Bool) → is_held_at_start c.tabs p x ≡ b → Where (value_written x f w) (Judges (begin c p x f) (trace_of x f evs))
+    if_judged true held = where_all (value_written x f w) (Judges (begin c p x f) (trace_of x f evs)) (judges held)
+    if_judged false free = where_none (value_written x f w) (Judges (begin c p x f) (trace_of x f evs)) (unwritten free)
+
+    some_none : (v : Value) → Some v ≡ None → ⊥
+    some_none v e = cc
+
+    sent_back : (b : Bool) → is_held_at_start c.tabs p x ≡ b → (s : WasSentBack (parent.value c.tabs x f says) (value_written x f w) (value_said x f new) (content_of x f parts))
+        → Answered (begin c p x f) None (trace_of x f evs) (reverted_for (n + 1) (Some s.value) (Gives s.back) (trace_of x f evs))
+    sent_back true held s =
+        answer_sent_back (begin c p x f) (n + 1) s.value s.back (trace_of x f evs) (some_is s.back (words.value (initial f) (trace_of x f evs)) (sym s.present ∙ ft.told (held_live c.tabs p x held))) (judges held) ft.fits
+    sent_back false free s = absurd (some_none s.value (sym s.written ∙ unwritten free))
+
+    go : (WasApplied (value_written x f w) (value_said x f new) (content_of x f parts) ⊎ WasSentBack (parent.value c.tabs x f says) (value_written x f w) (value_said x f new) (content_of x f parts))
+        → FieldTies c p x f (new ++ says) did (Reverts (n + 1) w parts ∷ evs)
+    go (inl a) =
+        done (value_written x f w) a.said
+        (subst (λ (o : Content Value). Answered (begin c p x f) (value_written x f w) (trace_of x f evs) (reverted_for (n + 1) (value_written x f w) o (trace_of x f evs))) (sym a.nothing)
+        (answer_applied (begin c p x f) (n + 1) (value_written x f w) (trace_of x f evs) (if_judged (is_held_at_start c.tabs p x) refl) ft.fits))
+    go (inr s) =
+        done None s.said
+        (subst (λ (o : Content Value). Answered (begin c p x f) None (trace_of x f evs) (reverted_for (n + 1) (value_written x f w) o (trace_of x f evs))) (sym s.gives)
+        (subst (λ (o : Option Value). Answered (begin c p x f) None (trace_of x f evs) (reverted_for (n + 1) o (Gives s.back) (trace_of x f evs))) (sym s.written)
+        (sent_back (is_held_at_start c.tabs p x) refl s)))

@@ -1,5 +1,5 @@
 -- The laws of the model: a process shows its view, the point never falls, and quiet links.
-use Rattle.std.proofs.Common.{◌≡◌, ℕ, ◌<◌, ◌≤◌, Bool, true, List, [], ◌∷◌, ◌++◌, if◌then◌else◌, map, length, refl, ap, sym, ◌∙◌, arith}
+use Rattle.std.proofs.Common.{◌≡◌, ℕ, ◌<◌, ◌≤◌, Bool, true, List, [], ◌∷◌, ◌++◌, if◌then◌else◌, Option, None, Some, map, length, refl, ap, sym, ◌∙◌, arith}
 use Rattle.std.proofs.lemmas.Bool.{and_parts}
 use Rattle.fission_ids.specs.declared.context.ContextId.{ContextId}
 use Rattle.field_table.specs.declared.field.Field.{Field}
@@ -7,9 +7,11 @@ use Rattle.field_table.specs.declared.value.Value.{Value}
 use Rattle.wire_msgs.specs.declared.config.Config.{Config}
 use Rattle.wire_msgs.specs.declared.config.StartTab.{StartTab}
 use Rattle.wire_msgs.specs.declared.part.DownPart.{DownPart}
+use Rattle.protocol.specs.Outside.{told_allowed}
 use Rattle.traces.specs.Event.Event.{Reverts, Does, Ends}
 use Rattle.traces.specs.Links.{writes_waiting, bundles_waiting}
-use Rattle.traces.specs.Field.{FieldEvent, Trace, bundle_for}
+use Rattle.traces.specs.Field.{Content, FieldEvent, Trace, bundle_for, reverted_for}
+use Rattle.traces.specs.Field.Content.{Nothing, Gives, Begins, Removes, Leaves}
 use Rattle.traces.specs.Words.{Start, while_held, stage}
 use Rattle.traces.specs.Words.Stage.{Held, Coming}
 use Rattle.traces.specs.Words as words
@@ -17,13 +19,12 @@ use Rattle.traces.specs.Rules.{Keeps}
 use Rattle.traces.specs.Laws.{Projected}
 use Rattle.traces.proofs.Projection.{projection}
 use Rattle.traces.proofs.Quiet.{shows_the_view, never_falls, quiet}
-use Rattle.model.specs.Journal.{steps_of}
 use Rattle.model.specs.Laws.{RunFits, ProcessShowsTheView, PointNeverFalls, QuietShowsTheParent}
 use Rattle.model.specs.Links.{own_bundles, is_nothing, up_waiting, down_waiting}
-use Rattle.model.specs.Moments.{Moment, Written, ProcessEvent, events_of, moment, moments, down_bundle}
+use Rattle.model.specs.Moments.{Moment, Written, ProcessEvent, events_of, moment, moments_of, down_bundle}
 use Rattle.model.specs.Moments.Written.{Own, Said}
-use Rattle.model.specs.Next.{Run, run_after, moments_of}
-use Rattle.model.specs.View.{look, begin, trace, view}
+use Rattle.model.specs.Next.{Run, run_with}
+use Rattle.model.specs.View.{value_written, content_of, look, begin, trace, view}
 use Rattle.model.proofs.TiesStart.{held_live}
 use Rattle.model.proofs.TiesTrace.{AreSimple, never_ended, stage_is}
 use Rattle.model.proofs.Ties.{IsHonest, AreHonest}
@@ -36,7 +37,7 @@ abbrev pub Tied_run : Run → ℕ → Type 0
 Tied_run r p = Tied_behind r.config p (moments_of r.config r.journal)
 
 pub run_tied : (r : Run) (p : ℕ) → RunFits r → p < length r.config.types → Tied_run r p
-run_tied r p fits lt = tied r.config (steps_of r.journal) fits.steps p lt
+run_tied r p fits lt = tied r.config r.journal fits.steps p lt
 
 -- the projection of tied events
 same_links : (c : Config) (p : ℕ) (ms : List Moment) (x : ContextId) (f : Field) → Tied_behind c p ms → Projected (look x f) (events_of p ms)
@@ -70,20 +71,33 @@ one_event {start = start} {e = e} {h = h} g k before =
     let n : (words.base h ≤ words.base (e ∷ h)) × (words.point h ≤ words.point (e ∷ h)) = never_falls Value start e h k in
     (omega (arith, b.0, n.0), omega (arith, b.1, n.1))
 
+two_events : {start : Start Value} {e d : FieldEvent Value} {h : Trace Value} (g : Trace Value) → Keeps start (d ∷ e ∷ h) → (Keeps start h → Rises_to g h) → Rises_to g (d ∷ e ∷ h)
+two_events g k before = one_event g k (λ rest. one_event g rest before)
+
+-- a hear that sends something back is one event or two
+event_back : {start : Start Value} {h : Trace Value} (g : Trace Value) (j : ℕ) (w : Option Value) (c : Content Value) → Keeps start (reverted_for j w c h) → (Keeps start h → Rises_to g h) → Rises_to g (reverted_for j w c h)
+event_back g j None c k before = two_events g k before
+event_back g j (Some v) (Gives back) k before = one_event g k before
+event_back g j (Some v) Nothing k before = two_events g k before
+event_back g j (Some v) (Begins b) k before = two_events g k before
+event_back g j (Some v) Removes k before = two_events g k before
+event_back g j (Some v) Leaves k before = two_events g k before
+
 more_events : (start : Start Value) (x : ContextId) (f : Field) (new evs : List ProcessEvent) → AreSimple (new ++ evs) → Keeps start (trace_of x f (new ++ evs)) → Rises_to (trace_of x f evs) (trace_of x f (new ++ evs))
 more_events start x f [] evs s k = (omega arith, omega arith)
-more_events start x f (Reverts j w c ∷ new) evs s k = absurd s
+more_events start x f (Reverts j w c ∷ new) evs s k = event_back (trace_of x f evs) j (value_written x f w) (content_of x f c) k (more_events start x f new evs s)
 more_events start x f (Does c ∷ new) evs s k = absurd s
 more_events start x f (Ends ∷ new) evs s k = absurd s
 more_events start x f (_ ∷ new) evs s k = one_event (trace_of x f evs) k (more_events start x f new evs s)
 
 pub never_fall : PointNeverFalls
-unfolding moments
-never_fall r s p x f fits lt =
+unfolding moments_of
+never_fall r e p x f fits lt =
     let c : Config = r.config in
-    let ms : List Moment = moments c (steps_of r.journal) in
-    let t : Tied_behind c p (moment c ms s ∷ ms) = run_tied (run_after r s) p fits lt in
-    more_events (begin c p x f) x f ((moment c ms s).events p) (events_of p ms) t.links.simple (trace_keeps c p (moment c ms s ∷ ms) x f t)
+    let ms : List Moment = moments_of c r.journal in
+    let m : Moment = moment c ms (told_allowed e.answer) e.step in
+    let t : Tied_behind c p (m ∷ ms) = run_tied (run_with r e) p fits lt in
+    more_events (begin c p x f) x f (m.events p) (events_of p ms) t.links.simple (trace_keeps c p (m ∷ ms) x f t)
 
 -- ---- quiet links
 

@@ -7,13 +7,13 @@ use Rattle.wire_msgs.specs.declared.config.StartTab.{StartTab}
 use Rattle.wire_msgs.specs.declared.part.DownPart.{DownPart}
 use Rattle.wire_msgs.specs.declared.part.DownPart.TheVariants as downs
 use Rattle.wire_msgs.specs.declared.part.UpPart.TheVariants as ups
-use Rattle.journal.specs.Step.{IsFree}
+use Rattle.protocol.specs.OwnActs.{denied_to_process}
 use Rattle.protocol.specs.Sayings.{Saying}
 use Rattle.protocol.specs.Seen.{Doing}
 use Rattle.protocol.specs.Seen.Doing.{Wrote}
-use Rattle.protocol.specs.Start.{is_held_at_start}
+use Rattle.protocol.specs.Start.{is_held_at_start, seen_at_start}
 use Rattle.traces.specs.Event.{Bundle}
-use Rattle.traces.specs.Event.Event.{Writes, Sends, Takes, Accepts, Changes as OthersChange}
+use Rattle.traces.specs.Event.Event.{Writes, Sends, Takes, Accepts, Reverts, Changes as OthersChange}
 use Rattle.traces.specs.Links.{last_write, hears, writes, writes_waiting, takes, bundles_waiting, last_sending, now, is_ended}
 use Rattle.traces.specs.Links as links
 use Rattle.traces.specs.Rules.{IsFirst, Flows, Rises}
@@ -30,15 +30,15 @@ use Rattle.model.proofs.TiesTrace.{AreSimple, never_ended}
 abbrev pub own_bundle : ℕ → ℕ → ContextId → Changes → UpBundle
 own_bundle k seen x t = record { epoch = record { 0 = k }; seen = seen; parts = ups.Commit x t ∷ [] }
 
--- a write that is the process's commit number k: of free fields of a context that it holds, made behind some
--- of the bundles that it was sent
+-- a write that is the process's commit number k: to a context that it holds, of nothing that is denied, made
+-- behind some of the bundles that it was sent
 pub record IsHonest (tabs : List StartTab) (p sent k : ℕ) (w : Written) : Type 0 where
   pub context : ContextId
   pub changes : Changes
   pub seen : ℕ
   pub is : w ≡ Own (own_bundle k seen context changes)
   pub held : is_held_at_start tabs p context ≡ true
-  pub free : IsFree changes
+  pub allowed : denied_to_process p (seen_at_start tabs p) context changes ≡ []
   pub seen_sent : seen ≤ sent
 
 -- writes that are the commits from number k on
@@ -60,7 +60,7 @@ AreCommits tabs p (d ∷ ds) = IsCommit tabs p d.content × AreCommits tabs p ds
 more_sent : (tabs : List StartTab) (p sent more k : ℕ) (ws : List Written) → sent ≤ more → AreHonest tabs p sent k ws → AreHonest tabs p more k ws
 more_sent tabs p sent more k [] le h = tt
 more_sent tabs p sent more k (w ∷ ws) le h = (
-  record { context = h.0.context; changes = h.0.changes; seen = h.0.seen; is = h.0.is; held = h.0.held; free = h.0.free; seen_sent = omega (arith, le, h.0.seen_sent) },
+  record { context = h.0.context; changes = h.0.changes; seen = h.0.seen; is = h.0.is; held = h.0.held; allowed = h.0.allowed; seen_sent = omega (arith, le, h.0.seen_sent) },
   more_sent tabs p sent more (k + 1) ws le h.1,
 )
 
@@ -122,10 +122,10 @@ rested tabs p says did evs n t = record {
 
 -- the process has commits to make that the parent didn't hear yet, and took no more than it was sent
 pub wrote : (tabs : List StartTab) (p : ℕ) (says : List Saying) (did : List Doing) (evs : List ProcessEvent) (n : ℕ) (x : ContextId) (t : Changes)
-    → is_held_at_start tabs p x ≡ true → IsFree t → Ties tabs p says did evs n
+    → is_held_at_start tabs p x ≡ true → denied_to_process p (seen_at_start tabs p) x t ≡ [] → Ties tabs p says did evs n
     → Ties tabs p says (Wrote x t ∷ did) (Writes (Own (own_bundle (commits did + 1) (taken did) x t)) ∷ evs) (n + 1)
 unfolding commits taken
-wrote tabs p says did evs n x t held free ties = record {
+wrote tabs p says did evs n x t held allowed ties = record {
   simple = ties.simple;
   flows = (tt, ties.flows);
   rises = (tt, ties.rises);
@@ -145,7 +145,7 @@ wrote tabs p says did evs n x t held free ties = record {
         seen = taken did;
         is = refl;
         held = held;
-        free = free;
+        allowed = allowed;
         seen_sent = omega (arith, ties.taken_are, ties.sent_are, taken_fits evs ties.flows);
       }));
   commits_wait = ties.commits_wait;
@@ -229,3 +229,27 @@ heard tabs p says new did evs n w first more_heard same_sent ties = record {
       subst (λ ws. AreHonest tabs p (bundles_sent p new) (hears evs + 1 + 1) ws) (sym (heard_leaves w evs first)) rest;
   commits_wait = ties.commits_wait;
 }
+
+-- and sends a commit back
+pub reverted : (tabs : List StartTab) (p : ℕ) (says new : List Saying) (did : List Doing) (evs : List ProcessEvent) (n : ℕ) (w : Written) (parts : List DownPart)
+    → IsCommit tabs p parts → IsFirst w (writes_waiting evs) → commits_heard p new ≡ commits_heard p says + 1 → bundles_sent p new ≡ bundles_sent p says + 1 → Ties tabs p says did evs n
+    → Ties tabs p new did (Reverts (n + 1) w parts ∷ evs) (n + 1)
+reverted tabs p says new did evs n w parts commit first more_heard more_is ties =
+    let back : Bundle (List DownPart) = record { entry = n + 1; epoch = hears evs + 1; content = parts } in record {
+      simple = ties.simple;
+      flows = (record { first = first; alive = never_ended evs ties.simple }, ties.flows);
+      rises = (omega (arith, ties.now_is), ties.rises);
+      now_is = omega arith;
+      last_is = omega arith;
+      commits_are = ties.commits_are;
+      taken_are = ties.taken_are;
+      heard_are = more_heard ∙ ap (λ k. k + 1) ties.heard_are;
+      sent_are = omega (arith, more_is, ties.sent_are, length-append (links.bundles_sent evs) (back ∷ []));
+      honest =
+          let all : AreHonest tabs p (bundles_sent p says) (hears evs + 1) (w ∷ first.rest) = subst (λ ws. AreHonest tabs p (bundles_sent p says) (hears evs + 1) ws) first.is ties.honest in
+          let rest : AreHonest tabs p (bundles_sent p new) (hears evs + 1 + 1) first.rest = more_sent tabs p (bundles_sent p says) (bundles_sent p new) (hears evs + 1 + 1) first.rest (omega (arith, more_is)) all.1 in
+          subst (λ ws. AreHonest tabs p (bundles_sent p new) (hears evs + 1 + 1) ws) (sym (heard_leaves w evs first)) rest;
+      commits_wait =
+          subst (λ ds. AreCommits tabs p ds) (sym (sent_waits back evs ties.flows))
+          (sent_one tabs p (bundles_waiting evs) back ties.commits_wait commit);
+    }

@@ -6,17 +6,17 @@ use Rattle.field_table.specs.declared.value.Value.{Value}
 use Rattle.wire_msgs.specs.declared.part.DownPart.{DownPart}
 use Rattle.wire_msgs.specs.declared.part.DownPart.TheVariants as downs
 use Rattle.traces.specs.Event.{Bundle}
-use Rattle.traces.specs.Event.Event.{Writes, Sends, Takes, Reverts, Does, Ends}
+use Rattle.traces.specs.Event.Event.{Writes, Sends, Takes, Accepts, Reverts, Does, Ends}
 use Rattle.traces.specs.Links.{last_write, bundles_waiting, is_ended}
-use Rattle.traces.specs.Field.{Content, trace_for, bundle_for}
-use Rattle.traces.specs.Field.Content.{Nothing, Gives}
+use Rattle.traces.specs.Field.{Content, Trace, trace_for, bundle_for, reverted_for}
+use Rattle.traces.specs.Field.Content.{Nothing, Gives, Begins, Removes, Leaves}
 use Rattle.traces.specs.Words.{Start, Stage, after, stage, stage_served, number_after, leaving_after, last_leaving}
 use Rattle.traces.specs.Words.Stage.{Held}
 use Rattle.traces.specs.Rules.{IsStay, Stays, Judges, Where, Flows, Rises}
 use Rattle.traces.specs.Laws.{Apart, Projected}
 use Rattle.traces.proofs.Projection.{projection}
 use Rattle.model.specs.Moments.{ProcessEvent, Written}
-use Rattle.model.specs.View.{value_for, given, content_of, look}
+use Rattle.model.specs.View.{value_for, value_written, given, content_of, look}
 
 -- ---- contents
 
@@ -57,25 +57,50 @@ stay_plain _ plain = absurd plain
 
 -- ---- events
 
--- so far nothing is sent back, no process does anything by itself, and none is ended
+-- so far no process does anything by itself, and none is ended
 abbrev pub AreSimple : List ProcessEvent → Type 0
 AreSimple [] = Unit {0}
-AreSimple (Reverts k w c ∷ evs) = ⊥
 AreSimple (Does c ∷ evs) = ⊥
 AreSimple (Ends ∷ evs) = ⊥
 AreSimple (_ ∷ evs) = AreSimple evs
 
 pub never_ended : (evs : List ProcessEvent) → AreSimple evs → is_ended evs ≡ false
 never_ended [] s = refl
-never_ended (Reverts k w c ∷ evs) s = absurd s
 never_ended (Does c ∷ evs) s = absurd s
 never_ended (Ends ∷ evs) s = absurd s
 never_ended (_ ∷ evs) s = never_ended evs s
 
+-- what a hear that sends something back leaves
+by_back : {A V : Type 0} (g : Trace V → A) (a : A) (k : ℕ) (w : Option V) (c : Content V) (h : Trace V) → ((v : V) (back : V) → g (Reverts k (Some v) (Gives back) ∷ h) ≡ a) → g (Sends k None c ∷ Accepts k w ∷ h) ≡ a
+    → g (reverted_for k w c h) ≡ a
+by_back g a k None c h one other = other
+by_back g a k (Some v) (Gives back) h one other = one v back
+by_back g a k (Some v) Nothing h one other = other
+by_back g a k (Some v) (Begins b) h one other = other
+by_back g a k (Some v) Removes h one other = other
+by_back g a k (Some v) Leaves h one other = other
+
+stage_back : {V : Type 0} (st : Stage) (k : ℕ) (w : Option V) (c : Content V) (h : Trace V) → stage st (reverted_for k w c h) ≡ stage st h
+stage_back st k w c h = by_back (stage st) (stage st h) k w c h (λ v back. refl) refl
+
+leaving_back : {V : Type 0} (k : ℕ) (w : Option V) (c : Content V) (h : Trace V) → last_leaving (reverted_for k w c h) ≡ last_leaving h
+leaving_back k w c h = by_back last_leaving (last_leaving h) k w c h (λ v back. refl) refl
+
+written_back : {V : Type 0} (k : ℕ) (w : Option V) (c : Content V) (h : Trace V) → last_write (reverted_for k w c h) ≡ last_write h
+written_back k w c h = by_back last_write (last_write h) k w c h (λ v back. refl) refl
+
+served_back : {V : Type 0} (st : Stage) (k : ℕ) (w : Option V) (c : Content V) (h : Trace V) → stage_served st (reverted_for k w c h) ≡ after c (stage_served st h)
+served_back st k None c h = refl
+served_back st k (Some v) (Gives back) h = refl
+served_back st k (Some v) Nothing h = refl
+served_back st k (Some v) (Begins b) h = refl
+served_back st k (Some v) Removes h = refl
+served_back st k (Some v) Leaves h = refl
+
 pub stage_is : (x : ContextId) (f : Field) (st : Stage) (evs : List ProcessEvent) → AreSimple evs → stage st (trace_for (look x f) evs) ≡ st
 stage_is x f st [] s = refl
 stage_is x f st (Takes d ∷ evs) s = after_plain (content_of x f d.content) (stage st (trace_for (look x f) evs)) (content_plain x f d.content) ∙ stage_is x f st evs s
-stage_is x f st (Reverts k w c ∷ evs) s = absurd s
+stage_is x f st (Reverts k w c ∷ evs) s = stage_back st k (value_written x f w) (content_of x f c) (trace_for (look x f) evs) ∙ stage_is x f st evs s
 stage_is x f st (Does c ∷ evs) s = absurd s
 stage_is x f st (Ends ∷ evs) s = absurd s
 stage_is x f st (_ ∷ evs) s = stage_is x f st evs s
@@ -83,7 +108,8 @@ stage_is x f st (_ ∷ evs) s = stage_is x f st evs s
 pub served_is : (x : ContextId) (f : Field) (st : Stage) (evs : List ProcessEvent) → AreSimple evs → stage_served st (trace_for (look x f) evs) ≡ st
 served_is x f st [] s = refl
 served_is x f st (Sends k u c ∷ evs) s = after_plain (content_of x f c) (stage_served st (trace_for (look x f) evs)) (content_plain x f c) ∙ served_is x f st evs s
-served_is x f st (Reverts k w c ∷ evs) s = absurd s
+served_is x f st (Reverts k w c ∷ evs) s =
+    served_back st k (value_written x f w) (content_of x f c) (trace_for (look x f) evs) ∙ after_plain (content_of x f c) (stage_served st (trace_for (look x f) evs)) (content_plain x f c) ∙ served_is x f st evs s
 served_is x f st (Does c ∷ evs) s = absurd s
 served_is x f st (Ends ∷ evs) s = absurd s
 served_is x f st (_ ∷ evs) s = served_is x f st evs s
@@ -91,7 +117,7 @@ served_is x f st (_ ∷ evs) s = served_is x f st evs s
 leaving_is : (x : ContextId) (f : Field) (evs : List ProcessEvent) → AreSimple evs → last_leaving (trace_for (look x f) evs) ≡ 0
 leaving_is x f [] s = refl
 leaving_is x f (Takes d ∷ evs) s = leaving_plain (content_of x f d.content) (last_write (trace_for (look x f) evs)) (last_leaving (trace_for (look x f) evs)) (content_plain x f d.content) ∙ leaving_is x f evs s
-leaving_is x f (Reverts k w c ∷ evs) s = absurd s
+leaving_is x f (Reverts k w c ∷ evs) s = leaving_back k (value_written x f w) (content_of x f c) (trace_for (look x f) evs) ∙ leaving_is x f evs s
 leaving_is x f (Does c ∷ evs) s = absurd s
 leaving_is x f (Ends ∷ evs) s = absurd s
 leaving_is x f (_ ∷ evs) s = leaving_is x f evs s
@@ -99,7 +125,7 @@ leaving_is x f (_ ∷ evs) s = leaving_is x f evs s
 pub written_is : (x : ContextId) (f : Field) (evs : List ProcessEvent) → AreSimple evs → last_write (trace_for (look x f) evs) ≡ last_write evs
 written_is x f [] s = refl
 written_is x f (Writes w ∷ evs) s = ap (λ n. n + 1) (written_is x f evs s)
-written_is x f (Reverts k w c ∷ evs) s = absurd s
+written_is x f (Reverts k w c ∷ evs) s = written_back k (value_written x f w) (content_of x f c) (trace_for (look x f) evs) ∙ written_is x f evs s
 written_is x f (Does c ∷ evs) s = absurd s
 written_is x f (Ends ∷ evs) s = absurd s
 written_is x f (_ ∷ evs) s = written_is x f evs s

@@ -11,10 +11,10 @@ use Rattle.wire_msgs.specs.declared.part.UpPart.TheVariants as ups
 use Rattle.protocol.specs.Bundle.{is_commit}
 use Rattle.protocol.specs.Sayings.{Saying}
 use Rattle.traces.specs.Event.{Bundle}
-use Rattle.traces.specs.Event.Event.{Writes, Sends, Takes, Accepts, Ignores}
+use Rattle.traces.specs.Event.Event.{Writes, Sends, Takes, Accepts, Reverts, Ignores}
 use Rattle.traces.specs.Links.{writes, hears, writes_waiting, bundles_sent, takes, bundles_waiting}
 use Rattle.model.specs.Links.{own_bundles}
-use Rattle.model.specs.Moments.{Written, ProcessEvent, down_bundle, told, heard, is_applied}
+use Rattle.model.specs.Moments.{Written, ProcessEvent, down_bundle, told, heard, is_judged}
 use Rattle.model.specs.Moments.Written.{Own, Said}
 use Rattle.model.specs.Settling.{total, up_weight, down_weight, is_load, is_answered, is_request, makes_or_drops}
 
@@ -193,21 +193,38 @@ heard_weighs h b ws first light =
     let rest : drop (hears h + 1) (writes h) ≡ ws = without_first (hears h) (writes h) (Own b) ws first in
     omega (arith, ap own_total first, ap own_total rest, commit_weighs b.parts (first_commit h b ws first light))
 
-one_accepted : (k : ℕ) (h : List ProcessEvent) (b : UpBundle) (ws : List Written) → writes_waiting h ≡ Own b ∷ ws → Light h → Changed h (Accepts k (Own b) ∷ h) 0 17
+one_accepted : (k : ℕ) (h : List ProcessEvent) (b : UpBundle) (ws : List Written) → writes_waiting h ≡ Own b ∷ ws → Light h → Changed h (Accepts k (Own b) ∷ h) 1 17
 one_accepted k h b ws first light = record {
   light = record { heard = heard_left h b ws first; taken = light.taken; ups = light.ups; downs = light.downs };
   weight = omega (arith, heard_weighs h b ws first light);
 }
 
-one_ignored : (k : ℕ) (h : List ProcessEvent) (b : UpBundle) (ws : List Written) → writes_waiting h ≡ Own b ∷ ws → Light h → Changed h (Ignores k (Own b) ∷ h) 0 17
+one_ignored : (k : ℕ) (h : List ProcessEvent) (b : UpBundle) (ws : List Written) → writes_waiting h ≡ Own b ∷ ws → Light h → Changed h (Ignores k (Own b) ∷ h) 1 17
 one_ignored k h b ws first light = record {
   light = record { heard = heard_left h b ws first; taken = light.taken; ups = light.ups; downs = light.downs };
   weight = omega (arith, heard_weighs h b ws first light);
 }
 
--- whatever the parent answers
-pub one_heard : (k : ℕ) (h : List ProcessEvent) (b : UpBundle) (ws : List Written) (answer : Answer) → writes_waiting h ≡ Own b ∷ ws → Light h → Changed h (heard k b answer ∷ h) 0 17
-one_heard k h b ws answer first light = elim (is_applied answer) as (λ v. Changed h ((if v then Accepts k (Own b) else Ignores k (Own b)) ∷ h) 0 17) [
+one_reverted : (k : ℕ) (h : List ProcessEvent) (b : UpBundle) (ws : List Written) (ds : List DownPart) → writes_waiting h ≡ Own b ∷ ws → AllByRecursion IsPlain ds → Light h → Changed h (Reverts k (Own b) ds ∷ h) 1 17
+one_reverted k h b ws ds first plain light =
+    let back : Bundle (List DownPart) = record { entry = k; epoch = hears h + 1; content = ds } in
+    record {
+      light = record {
+        heard = heard_left h b ws first;
+        taken = omega (arith, length-append (bundles_sent h) (back ∷ []), light.taken);
+        ups = light.ups;
+        downs = all_and_one ArePlain (bundles_sent h) back light.downs plain;
+      };
+      weight =
+          let waits : drop (takes h) (bundles_sent h ++ back ∷ []) ≡ drop (takes h) (bundles_sent h) ++ back ∷ [] = drop-append-le (takes h) (bundles_sent h) (back ∷ []) light.taken in
+          omega (arith, heard_weighs h b ws first light, ap sent_total waits, sent_total-append (drop (takes h) (bundles_sent h)) (back ∷ []), plain_weighs back plain);
+    }
+
+-- whatever the parent answers, and sends back
+pub one_heard : (k : ℕ) (h : List ProcessEvent) (b : UpBundle) (ws : List Written) (answer : Answer) (ds : List DownPart) → writes_waiting h ≡ Own b ∷ ws → AllByRecursion IsPlain ds → Light h
+    → Changed h (heard k b answer ds ∷ h) 1 17
+one_heard k h b ws answer [] first plain light = elim (is_judged answer) as (λ v. Changed h ((if v then Accepts k (Own b) else Ignores k (Own b)) ∷ h) 1 17) [
   | true ↦ one_accepted k h b ws first light
   | false ↦ one_ignored k h b ws first light
 ]
+one_heard k h b ws answer (d ∷ ds) first plain light = one_reverted k h b ws (d ∷ ds) first plain light

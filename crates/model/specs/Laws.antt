@@ -1,21 +1,26 @@
 -- What holds of every journal whose steps can be played.
-use Rattle.std.specs.Prelude.{◌≡◌, ℕ, ◌+◌, ◌≤◌, ◌<◌, List, ◌∷◌, length, Bool, true, false}
+use Rattle.std.specs.Prelude.{◌≡◌, ℕ, ◌+◌, ◌≤◌, ◌<◌, List, ◌∷◌, length, Bool, true, false, Some}
 use Rattle.std.specs.List.{AllByRecursion}
 use Rattle.fission_ids.specs.declared.context.ContextId.{ContextId}
+use Rattle.fission_ids.specs.declared.process.ProcId.{ProcId}
 use Rattle.field_table.specs.declared.field.Field.{Field}
+use Rattle.field_rules.specs.Bounds.{Bounds}
 use Rattle.wire_msgs.specs.Config.{ConfigFits}
 use Rattle.wire_msgs.specs.declared.answer.Answer.{Answer}
 use Rattle.wire_msgs.specs.declared.answer.Answer.TheVariants.{Refused}
 use Rattle.wire_msgs.specs.declared.config.Config.{Config}
 use Rattle.journal.specs.Step.{StepFits}
+use Rattle.journal.specs.declared.entry.Entry.{Entry}
 use Rattle.journal.specs.declared.entry.Step.{Step}
+use Rattle.journal.specs.declared.entry.Step.TheVariants.{Take}
 use Rattle.protocol.specs.Start.{is_held_at_start}
 use Rattle.model.specs.Journal.{steps_of}
 use Rattle.model.specs.Links.{is_quiet, up_waiting, down_waiting}
-use Rattle.model.specs.Moments.{Moment, moment, seen_now, facts_now}
-use Rattle.model.specs.Next.{Run, run_after, moments_of}
+use Rattle.model.specs.Moments.{Moment, moment, moments_of, seen_now, facts_now}
+use Rattle.model.specs.Next.{Run, run_with, run_after}
 use Rattle.model.specs.Settling.{weight, settled, IsServed, Extends}
-use Rattle.model.specs.View.{view, parent_view, base, point}
+use Rattle.model.specs.View.{view, parent_view, base, point, value_at, newest, is_answered}
+use Rattle.model.specs.View.{IsOnItsWay, reverted_in, sent_first}
 
 -- a run that can be played
 pub record RunFits (r : Run) : Type 0 where
@@ -28,13 +33,13 @@ ProcessShowsTheView =
     (r : Run) (p : ℕ) (x : ContextId) (f : Field) → RunFits r → p < length r.config.types
     → (seen_now r.config p (moments_of r.config r.journal)).value x f ≡ view r.config p x f r.journal
 
--- a further step never lowers a base or a point
+-- a further entry never lowers a base or a point
 abbrev pub PointNeverFalls : Type 0
 PointNeverFalls =
-    (r : Run) (s : Step) (p : ℕ) (x : ContextId) (f : Field) → RunFits (run_after r s)
+    (r : Run) (e : Entry) (p : ℕ) (x : ContextId) (f : Field) → RunFits (run_with r e)
     → p < length r.config.types
-    → (base r.config p x f r.journal ≤ base r.config p x f (run_after r s).journal)
-    × (point r.config p x f r.journal ≤ point r.config p x f (run_after r s).journal)
+    → (base r.config p x f r.journal ≤ base r.config p x f (run_with r e).journal)
+    × (point r.config p x f r.journal ≤ point r.config p x f (run_with r e).journal)
 
 -- a process with nothing on its links shows what the parent shows of each context that it holds
 abbrev pub QuietShowsTheParent : Type 0
@@ -44,21 +49,41 @@ QuietShowsTheParent =
     → is_held_at_start r.config.tabs p x ≡ true
     → view r.config p x f r.journal ≡ parent_view r.config x f r.journal
 
+-- as a process takes the bundle that reverts its newest write to a field, it shows the parent's value at the
+-- entry that sent it
+abbrev pub RevertTakenShowsTheParent : Type 0
+RevertTakenShowsTheParent =
+    (r : Run) (a : Answer) (p : ProcId) (x : ContextId) (f : Field) (k : ℕ)
+    → RunFits (run_with r (record { step = Take p; answer = a }))
+    → is_held_at_start r.config.tabs p.0 x ≡ true
+    → sent_first r.config p.0 r.journal ≡ Some k
+    → reverted_in (newest r.config p.0 x f r.journal) r.config p.0 x f r.journal ≡ Some k
+    → view r.config p.0 x f (record { step = Take p; answer = a } ∷ r.journal) ≡
+    Some (value_at r.config p.0 x f k r.journal)
+
+-- a reverted write that isn't answered has its revert on its way: the parent's value at the entry that sent it
+abbrev pub RevertsWait : Type 0
+RevertsWait =
+    (r : Run) (p : ℕ) (x : ContextId) (f : Field) (n k : ℕ) → RunFits r → p < length r.config.types
+    → reverted_in n r.config p x f r.journal ≡ Some k
+    → is_answered n r.config p x f r.journal ≡ false
+    → IsOnItsWay k (value_at r.config p x f k r.journal) r.config p x f r.journal
+
 -- what settling leaves
-pub record Settles (r : Run) : Type 0 where
-  pub config : (settled r).config ≡ r.config
-  pub served : (p : ℕ) → p < length r.config.types → IsServed p (settled r)
-  pub extends : Extends r.journal (settled r).journal
-  pub falls : length (settled r).journal + weight (settled r) ≤ length r.journal + weight r
+pub record Settles (b : Bounds) (r : Run) : Type 0 where
+  pub config : (settled b r).config ≡ r.config
+  pub served : (p : ℕ) → p < length r.config.types → IsServed p (settled b r)
+  pub extends : Extends r.journal (settled b r).journal
+  pub falls : length (settled b r).journal + weight (settled b r) ≤ length r.journal + weight r
 
 abbrev pub SettlingEnds : Type 0
-SettlingEnds = (r : Run) → RunFits r → Settles r
+SettlingEnds = (b : Bounds) (r : Run) → RunFits r → Settles b r
 
 -- a step adds an entry, and what waits then weighs little more
 abbrev pub StepAddsLittle : Type 0
 StepAddsLittle =
-    (r : Run) (s : Step) → RunFits (run_after r s)
-    → length (run_after r s).journal + weight (run_after r s) ≤ length r.journal + weight r + 65
+    (b : Bounds) (r : Run) (s : Step) → RunFits (run_after b r s)
+    → length (run_after b r s).journal + weight (run_after b r s) ≤ length r.journal + weight r + 65
 
 -- an answer is a refusal
 abbrev pub is_refused : Answer → Bool
@@ -75,5 +100,5 @@ pub record Unchanged (c : Config) (m : Moment) (ms : List Moment) : Type 0 where
 -- a refused step changes nothing but the journal
 abbrev pub RefusedChangesNothing : Type 0
 RefusedChangesNothing =
-    (c : Config) (ms : List Moment) (s : Step) → is_refused (moment c ms s).answer ≡ true
-    → Unchanged c (moment c ms s) ms
+    (c : Config) (ms : List Moment) (allows : Field → Bool) (s : Step)
+    → is_refused (moment c ms allows s).answer ≡ true → Unchanged c (moment c ms allows s) ms

@@ -5,9 +5,8 @@ use Rattle.wire_msgs.specs.declared.bundle.UpBundle.{UpBundle}
 use Rattle.wire_msgs.specs.declared.config.Config.{Config}
 use Rattle.traces.specs.Links.{writes_waiting, bundles_waiting}
 use Rattle.model.specs.Journal.{Journal}
-use Rattle.model.specs.Moments.{Moment, Written, events_of, down_bundle}
+use Rattle.model.specs.Moments.{Moment, Written, events_of, down_bundle, moments_of}
 use Rattle.model.specs.Moments.Written.{Own, Said}
-use Rattle.model.specs.Next.{moments_of}
 
 -- the bundles among these
 abbrev pub own_bundles : List Written → List UpBundle

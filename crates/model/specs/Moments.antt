@@ -1,6 +1,7 @@
 -- What each entry came to, by looking back through those before it.
 use Rattle.std.specs.Prelude.{ℕ, ◌+◌, ◌==◌, Bool, true, false, if◌then◌else◌}
 use Rattle.std.specs.Prelude.{List, [], ◌∷◌, ◌++◌, length, Option, None, Some}
+use Rattle.field_table.specs.declared.field.Field.{Field}
 use Rattle.wire_msgs.specs.declared.action.Action.{Action}
 use Rattle.wire_msgs.specs.declared.answer.Answer.{Answer}
 use Rattle.wire_msgs.specs.declared.answer.Answer.TheVariants.{Parts, Refused}
@@ -19,9 +20,11 @@ use Rattle.protocol.specs.Bundle.{Ruling, bundle_ruling}
 use Rattle.protocol.specs.ParentActs.{action_ruling}
 use Rattle.protocol.specs.Take.{bundle_step, bundle_sent}
 use Rattle.protocol.specs.OwnActs.{action_step}
+use Rattle.protocol.specs.Outside.{told_allowed}
 use Rattle.traces.specs.Event.{Event, Bundle}
-use Rattle.traces.specs.Event.Event.{Writes, Sends, Takes, Accepts, Ignores, Changes}
+use Rattle.traces.specs.Event.Event.{Writes, Sends, Takes, Accepts, Reverts, Ignores, Changes}
 use Rattle.traces.specs.Links.{writes_waiting, bundles_waiting}
+use Rattle.model.specs.Journal.{Journal}
 use Rattle.model.specs.Parent.{asked}
 use Rattle.model.specs.Process.{own_asked}
 
@@ -123,43 +126,47 @@ parent_moment k rule = record {
   answer = rule.answer;
 }
 
--- whether the parent applied a commit
-abbrev pub is_applied : Answer → Bool
-is_applied (Parts (Commit x notes ∷ more)) = true
-is_applied answer = false
+-- whether the parent judged a commit
+abbrev pub is_judged : Answer → Bool
+is_judged (Parts (Commit x notes ∷ more)) = true
+is_judged answer = false
 
--- the event of the process whose bundle the parent hears in entry k: so far none is sent back to it
-abbrev pub heard : ℕ → UpBundle → Answer → ProcessEvent
-heard k b answer = if is_applied answer then Accepts k (Own b) else Ignores k (Own b)
+-- the event of the process whose bundle the parent hears in entry k, by what it is sent back
+abbrev pub heard : ℕ → UpBundle → Answer → List DownPart → ProcessEvent
+heard k b answer [] = if is_judged answer then Accepts k (Own b) else Ignores k (Own b)
+heard k b answer (d ∷ ds) = Reverts k (Own b) (d ∷ ds)
 
 -- the events of each process as the parent hears a bundle of process p in entry k
 abbrev pub events_heard : ℕ → ℕ → UpBundle → Ruling (List Saying) → ℕ → List ProcessEvent
 events_heard k p b rule q =
-    if q == p then heard k b rule.answer ∷ [] else told k rule.kept (rule.sends q) ∷ []
+    if q == p then heard k b rule.answer (rule.sends p) ∷ [] else told k rule.kept (rule.sends q) ∷ []
 
--- the parent hears the bundle of a process that waited first
-abbrev pub heard_moment : Config → ℕ → List Moment → List Written → Moment
-heard_moment c p ms (Own b ∷ rest) =
+-- the parent hears the bundle of a process that waited first; the test says of which fields the functions of
+-- the outside allow the value
+abbrev pub heard_moment : Config → ℕ → List Moment → (Field → Bool) → List Written → Moment
+heard_moment c p ms allows (Own b ∷ rest) =
     let rule : Ruling (List Saying) =
     bundle_ruling (λ says. asked c.tabs (says ++ said ms)) (λ y says. y ∷ says)
-    (length c.types) (λ fld. false) p b [] in
+    (length c.types) allows p b [] in
     record {
       says = rule.kept;
       did = λ q. [];
       events = events_heard (length ms + 1) p b rule;
       answer = rule.answer;
     }
-heard_moment c p ms others = only_answer (Refused Empty)
+heard_moment c p ms allows others = only_answer (Refused Empty)
 
 -- what a step comes to
-abbrev pub moment : Config → List Moment → Step → Moment
-moment c ms (Act p action) = act_moment c p.0 action ms
-moment c ms (Take p) = taken_moment c p.0 ms (bundles_waiting (events_of p.0 ms))
-moment c ms (ParentAct action) = parent_moment (length ms + 1)
+abbrev pub moment : Config → List Moment → (Field → Bool) → Step → Moment
+moment c ms allows (Act p action) = act_moment c p.0 action ms
+moment c ms allows (Take p) = taken_moment c p.0 ms (bundles_waiting (events_of p.0 ms))
+moment c ms allows (ParentAct action) = parent_moment (length ms + 1)
     (action_ruling (λ says. asked c.tabs (says ++ said ms)) (λ y says. y ∷ says) (length c.types) action [])
-moment c ms (Hear p) = heard_moment c p.0 ms (writes_waiting (events_of p.0 ms))
+moment c ms allows (Hear p) = heard_moment c p.0 ms allows (writes_waiting (events_of p.0 ms))
 
--- the moments of these steps, the newest first
-unfoldable pub moments : Config → List Step → List Moment
-moments c [] = []
-moments c (s ∷ older) = moment c (moments c older) s ∷ moments c older
+-- the moments of the entries of a journal, the newest first; what the functions of the outside allowed is
+-- read back from the notes of each
+unfoldable pub moments_of : Config → Journal → List Moment
+moments_of c [] = []
+moments_of c (e ∷ older) =
+    moment c (moments_of c older) (told_allowed e.answer) e.step ∷ moments_of c older

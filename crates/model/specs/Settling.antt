@@ -3,6 +3,7 @@
 use Rattle.std.specs.Prelude.{◌≡◌, ℕ, zero, suc, ◌+◌, Bool, true, false, not, ◌&&◌, if◌then◌else◌}
 use Rattle.std.specs.Prelude.{List, [], ◌∷◌, ◌++◌, length}
 use Rattle.std.specs.List.{list_any}
+use Rattle.field_rules.specs.Bounds.{Bounds}
 use Rattle.wire_msgs.specs.declared.bundle.DownBundle.{DownBundle}
 use Rattle.wire_msgs.specs.declared.bundle.UpBundle.{UpBundle}
 use Rattle.wire_msgs.specs.declared.part.DownPart.{DownPart}
@@ -13,40 +14,40 @@ use Rattle.journal.specs.declared.entry.Step.TheVariants.{Take, Hear}
 use Rattle.protocol.specs.Bundle.{is_commit}
 use Rattle.protocol.specs.Start.{numbers}
 use Rattle.model.specs.Journal.{Journal}
-use Rattle.model.specs.Moments.{Moment, seen_now}
+use Rattle.model.specs.Moments.{Moment, seen_now, moments_of}
 use Rattle.model.specs.Links.{up_waiting, down_waiting, is_nothing}
-use Rattle.model.specs.Next.{Run, run_after, moments_of}
+use Rattle.model.specs.Next.{Run, run_after}
 
 -- what the entries of a run came to
 abbrev pub moments_in : Run → List Moment
 moments_in r = moments_of r.config r.journal
 
--- ---- a round
+-- ---- a round, by the bounds of the functions of the outside
 
 -- the parent hears what waited first from process p, if anything waits
-abbrev pub heard_by : ℕ → Run → Run
-heard_by p r =
-    if is_nothing (up_waiting p (moments_in r)) then r else run_after r (Hear (record { 0 = p }))
+abbrev pub heard_by : Bounds → ℕ → Run → Run
+heard_by b p r =
+    if is_nothing (up_waiting p (moments_in r)) then r else run_after b r (Hear (record { 0 = p }))
 
 -- process p takes what waited first, if it runs and anything waits
-abbrev pub taken_by : ℕ → Run → Run
-taken_by p r =
+abbrev pub taken_by : Bounds → ℕ → Run → Run
+taken_by b p r =
     if (seen_now r.config p (moments_in r)).running && not (is_nothing (down_waiting p (moments_in r)))
-    then run_after r (Take (record { 0 = p })) else r
+    then run_after b r (Take (record { 0 = p })) else r
 
 -- both, for one process after the other
-unfoldable pub all_served : List ℕ → Run → Run
-all_served [] r = r
-all_served (p ∷ ps) r = all_served ps (taken_by p (heard_by p r))
+unfoldable pub all_served : Bounds → List ℕ → Run → Run
+all_served b [] r = r
+all_served b (p ∷ ps) r = all_served b ps (taken_by b p (heard_by b p r))
 
 -- for each process, by their numbers
-abbrev pub round : Run → Run
-round r = all_served (numbers 0 (length r.config.types)) r
+abbrev pub round : Bounds → Run → Run
+round b r = all_served b (numbers 0 (length r.config.types)) r
 
 -- so many rounds
-unfoldable pub rounds : ℕ → Run → Run
-rounds zero r = r
-rounds (suc n) r = rounds n (round r)
+unfoldable pub rounds : Bounds → ℕ → Run → Run
+rounds b zero r = r
+rounds b (suc n) r = rounds b n (round b r)
 
 -- ---- the weight of what waits
 
@@ -96,8 +97,8 @@ weight r = total (λ p. weight_at p (moments_in r)) (numbers 0 (length r.config.
 -- ---- settling
 
 -- as many rounds as what waits weighs: behind the first that does nothing, none does anything
-unfoldable pub settled : Run → Run
-settled r = rounds (weight r) r
+unfoldable pub settled : Bounds → Run → Run
+settled b r = rounds b (weight r) r
 
 -- nothing waits for process p, or it doesn't run and nothing waits from it
 pub record IsServed (p : ℕ) (r : Run) : Type 0 where

@@ -1,6 +1,6 @@
 -- What each side shows of a field: what a process sees of a journal is told as a trace of that field, and it
 -- shows the view of its trace.
-use Rattle.std.specs.Prelude.{ℕ, List, [], ◌∷◌, Option, None, Some, if◌then◌else◌}
+use Rattle.std.specs.Prelude.{ℕ, Bool, List, [], ◌∷◌, Option, None, Some, if◌then◌else◌}
 use Rattle.fission_ids.specs.declared.context.ContextId.{ContextId}
 use Rattle.fission_ids.specs.Ids.{same_context}
 use Rattle.field_table.specs.declared.field.Field.{Field}
@@ -18,13 +18,16 @@ use Rattle.protocol.specs.Sayings.Saying.{Wrote}
 use Rattle.protocol.specs.Start.{is_held_at_start}
 use Rattle.traces.specs.Field.{Content, Look, Trace, trace_for}
 use Rattle.traces.specs.Field.Content.{Nothing, Gives}
-use Rattle.traces.specs.Words.{Start, Stage, stage, while_held}
+use Rattle.traces.specs.Event.{Bundle}
+use Rattle.traces.specs.Laws.{Stands}
+use Rattle.traces.specs.Links.{bundles_waiting}
+use Rattle.traces.specs.Words.{Start, Stage, Fate, stage, while_held}
 use Rattle.traces.specs.Words.Stage.{Held, Coming}
+use Rattle.traces.specs.Words.Fate.{Reverted}
 use Rattle.traces.specs.Words as words
 use Rattle.model.specs.Journal.{Journal}
-use Rattle.model.specs.Moments.{Moment, Written, events_of, facts_now}
+use Rattle.model.specs.Moments.{Moment, Written, events_of, facts_now, moments_of}
 use Rattle.model.specs.Moments.Written.{Own, Said}
-use Rattle.model.specs.Next.{moments_of}
 
 -- ---- a field of a context, in writes and in bundles
 
@@ -78,6 +81,40 @@ base c p x f j = words.base (trace p x f (moments_of c j))
 -- the entry up to which process p knows the parent's value: its base, or a later one that accepted its write
 abbrev pub point : Config → ℕ → ContextId → Field → Journal → ℕ
 point c p x f j = words.point (trace p x f (moments_of c j))
+
+-- the parent's value after entry k, by what concerns process p
+abbrev pub value_at : Config → ℕ → ContextId → Field → ℕ → Journal → Value
+value_at c p x f k j = words.value_at (begin c p x f).initial k (trace p x f (moments_of c j))
+
+-- the entry of a revert
+abbrev pub entry_of_revert : Fate → Option ℕ
+entry_of_revert (Reverted k) = Some k
+entry_of_revert other = None
+
+-- the entry that reverted the write of process p with number n, if one did
+abbrev pub reverted_in : ℕ → Config → ℕ → ContextId → Field → Journal → Option ℕ
+reverted_in n c p x f j = entry_of_revert (words.fate n (trace p x f (moments_of c j)))
+
+-- the number of its newest write to it, or 0
+abbrev pub newest : Config → ℕ → ContextId → Field → Journal → ℕ
+newest c p x f j = words.newest (trace p x f (moments_of c j))
+
+-- whether its write number n is answered: accepted, or reverted and the revert was taken
+abbrev pub is_answered : ℕ → Config → ℕ → ContextId → Field → Journal → Bool
+is_answered n c p x f j = words.is_answered (begin c p x f).stage n (trace p x f (moments_of c j))
+
+-- a bundle that entry k sent waits for process p, and gives it this value
+abbrev pub IsOnItsWay : ℕ → Value → Config → ℕ → ContextId → Field → Journal → Type 0
+IsOnItsWay k v c p x f j = Stands k (Gives v) (bundles_waiting (trace p x f (moments_of c j)))
+
+-- the entry that sent the first of these bundles
+abbrev pub first_sent : List (Bundle (List DownPart)) → Option ℕ
+first_sent [] = None
+first_sent (d ∷ ds) = Some d.entry
+
+-- the entry that sent the bundle that waited first for process p
+abbrev pub sent_first : Config → ℕ → Journal → Option ℕ
+sent_first c p j = first_sent (bundles_waiting (events_of p (moments_of c j)))
 
 -- what process p shows of it, if it holds the context: its newest own write not yet answered, else the
 -- parent's value at its point

@@ -1,5 +1,6 @@
 ghost use Rattle.model.specs.Laws.{ProcessShowsTheView, PointNeverFalls, QuietShowsTheParent};
 ghost use Rattle.model.specs.Laws.{SettlingEnds, StepAddsLittle, RefusedChangesNothing};
+ghost use Rattle.model.specs.Laws.{RevertTakenShowsTheParent, RevertsWait};
 
 /// What a process answers of a field is its view: its newest own write not yet answered, else the parent's
 /// value at the process's point; and it answers something exactly of what it holds.
@@ -7,7 +8,7 @@ pub fn process_shows_the_view()
     ensures { ProcessShowsTheView }
 {}
 
-/// A further step lowers neither the base nor the point of a process.
+/// A further entry lowers neither the base nor the point of a process.
 pub fn point_never_falls()
     ensures { PointNeverFalls }
 {}
@@ -15,6 +16,18 @@ pub fn point_never_falls()
 /// A process with nothing on its links shows what the parent shows of each context that it holds.
 pub fn quiet_shows_the_parent()
     ensures { QuietShowsTheParent }
+{}
+
+/// As a process takes the bundle that reverts its newest write to a field, it shows the parent's value at the
+/// entry that sent it.
+pub fn revert_taken_shows_the_parent()
+    ensures { RevertTakenShowsTheParent }
+{}
+
+/// A reverted write that isn't answered has its revert on its way, with the parent's value at the entry that
+/// sent it.
+pub fn reverts_wait()
+    ensures { RevertsWait }
 {}
 
 /// Settling ends. It only adds entries; behind it nothing waits from any process, nor for one that runs; and

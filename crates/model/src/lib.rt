@@ -7,5 +7,5 @@ mod laws;
 
 pub use laws::{
     a_step_adds_little, point_never_falls, process_shows_the_view, quiet_shows_the_parent,
-    refused_changes_nothing, settling_ends,
+    refused_changes_nothing, revert_taken_shows_the_parent, reverts_wait, settling_ends,
 };

@@ -1,0 +1,5 @@
+use Rattle.model.proofs.Reverted.{reverts_stand}
+use Rattle.model.proofs.laws.reverts_wait.Goals as goal
+
+pub returns : goal.returns
+returns c = reverts_stand

@@ -1,5 +1,5 @@
 -- What an action of a process comes to, by why it is refused.
-use Rattle.std.proofs.Common.{◌≡◌, ◌≢◌, ◌∙◌, refl, sym, ap, subst, ℕ, Bool, true, false, not, List, [], ◌∷◌, Option, None, Some}
+use Rattle.std.proofs.Common.{◌≡◌, ◌≢◌, ◌∙◌, refl, sym, ap, subst, Bool, true, false, not, List, [], Option, None, Some}
 use Rattle.std.specs.Prelude.{is_some, unwrap_or, Result, Ok, Err, IfOk}
 use Rattle.std.specs.Option.{option_map_or}
 use Rattle.fission_ids.specs.declared.context.ContextId.{ContextId}

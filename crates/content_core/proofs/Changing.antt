@@ -13,7 +13,7 @@ use Rattle.field_table.specs.FieldSet.{minus}
 use Rattle.fission_ids.specs.declared.epoch.Epoch.{Epoch}
 use Rattle.transaction.specs.Transaction.{Changes, table_after, modified_in, changes_in}
 use Rattle.context_store.specs.Content.{Content, Stored, is_there, content_after_change, stored_after_commit, stored_after_overlay, obsolete_fields}
-use Rattle.context_store.proofs.Contexts.{same_context-tied, tied_same, are_tied, get-changed_at}
+use Rattle.context_store.proofs.Contexts.{same_context-tied, tied_same, get-changed_at}
 use Rattle.wire_msgs.specs.declared.config.StartTab.{StartTab}
 use Rattle.protocol.specs.Fold.{or_later}
 use Rattle.protocol.specs.Start.{is_held_at_start}

@@ -1,18 +1,14 @@
 -- The fields that a process may not write, as a set.
-use Rattle.std.proofs.Common.{◌≡◌, ◌≢◌, ◌∙◌, refl, sym, ap, ap₂, subst, ℕ, ◌==◌, Bool, true, false, ◌&&◌, ◌||◌, List, [], ◌∷◌, map, filter, Option, None, Some, true≢false}
+use Rattle.std.proofs.Common.{◌≡◌, ◌≢◌, ◌∙◌, refl, sym, ap, ℕ, ◌==◌, Bool, true, false, ◌&&◌, ◌||◌, List, [], ◌∷◌, filter, None, Some, true≢false}
 use Rattle.std.proofs.lemmas.Nat.Bits.{bit_at-zero}
 use Rattle.std.proofs.lemmas.Map.Views.{any-filter_same}
 use Rattle.std.specs.Int.{bit_at}
 use Rattle.std.specs.List.{list_any}
-use Rattle.std.specs.Prelude.{is_some}
-use Rattle.fission_ids.specs.declared.context.ContextId.{ContextId}
 use Rattle.field_table.specs.declared.field.Field.{Field}
-use Rattle.field_table.specs.declared.field_set.FieldSet.{FieldSet}
 use Rattle.field_table.specs.Field.{fields, number}
 use Rattle.field_table.specs.FieldSet.{has, set_of, number_of_bits}
 use Rattle.field_table.proofs.Filling.{same_by_fields}
 use Rattle.field_table.proofs.FieldSets.{members_set_of}
-use Rattle.wire_msgs.specs.declared.refusal.Refusal.{Refusal}
 use Rattle.wire_msgs.specs.declared.refusal.Refusal.TheVariants.{Denied}
 use Rattle.protocol.specs.Hear.{same_field, set_of_fields}
 use Rattle.protocol.specs.ParentActs.{denial_refused}

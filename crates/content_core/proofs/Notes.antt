@@ -1,15 +1,13 @@
 -- What the notes of a taken commit tell of one field.
-use Rattle.std.proofs.Common.{◌≡◌, ◌∙◌, refl, sym, ap, ap₂, subst, ℕ, zero, suc, ◌+◌, ◌*◌, ◌^◌, ◌<◌, ◌==◌, Bool, true, false, not, ◌&&◌, ◌||◌, cond, if◌then◌else◌, List, [], ◌∷◌, length, get_or, map, filter, arith, eq-eqb, lit<}
-use Rattle.std.proofs.Math.Pow.{pow-lt}
+use Rattle.std.proofs.Common.{◌≡◌, ◌∙◌, refl, sym, ap, ap₂, ℕ, ◌^◌, ◌<◌, Bool, true, false, not, ◌&&◌, ◌||◌, cond, if◌then◌else◌, List, [], ◌∷◌, length, get_or, map, filter, arith, eq-eqb, lit<}
 use Rattle.std.proofs.Math.Nat.{pow-suc}
 use Rattle.std.proofs.lemmas.Bool.{eqb-true}
 use Rattle.std.proofs.lemmas.List.Folds.{list_any_at}
 use Rattle.std.proofs.lemmas.Map.Views.{any-filter_same}
-use Rattle.std.specs.Prelude.{is_some, nat_lt, Option, None, Some}
+use Rattle.std.specs.Prelude.{is_some, nat_lt, None}
 use Rattle.std.specs.List.{list_any}
 use Rattle.field_table.specs.declared.field.Field.{Field}
 use Rattle.field_table.specs.declared.field_set.FieldSet.{FieldSet}
-use Rattle.field_table.specs.declared.value.Value.{Value}
 use Rattle.field_table.specs.Field.{fields, number}
 use Rattle.field_table.specs.FieldSet.{has, minus, set_of, number_of_bits}
 use Rattle.field_table.proofs.Tables.{stands, at_number}

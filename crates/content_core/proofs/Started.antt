@@ -1,5 +1,5 @@
 -- What a process keeps and answers at the start.
-use Rattle.std.proofs.Common.{◌≡◌, ◌∙◌, refl, sym, ap, ap₂, subst, ℕ, zero, suc, ◌+◌, ◌-◌, ◌^◌, ◌<◌, ◌==◌, Bool, true, false, ◌&&◌, ◌||◌, cond, if◌then◌else◌, List, [], ◌∷◌, ◌++◌, length, get_or, take, Option, None, Some, arith, true≢false, length-take-le, eq-eqb, inl, inr}
+use Rattle.std.proofs.Common.{◌≡◌, ◌∙◌, refl, sym, ap, ap₂, subst, ℕ, zero, suc, ◌+◌, ◌-◌, ◌^◌, ◌<◌, ◌==◌, Bool, true, false, ◌&&◌, ◌||◌, cond, if◌then◌else◌, List, [], ◌∷◌, ◌++◌, length, get_or, take, Option, None, Some, arith, length-take-le, eq-eqb, inl, inr}
 use Rattle.std.proofs.Math.Path.{fun_ext}
 use Rattle.std.proofs.lemmas.Bool.{cases_eq, ne_eqb}
 use Rattle.std.proofs.lemmas.Bool.Decides.{nat_tests}
@@ -15,11 +15,11 @@ use Rattle.fission_ids.specs.Ids.{same_context}
 use Rattle.field_table.specs.declared.field.Field.{Field}
 use Rattle.field_table.specs.declared.value.Value.{Value}
 use Rattle.field_table.specs.Field.{fields, initial}
-use Rattle.field_table.specs.Table.{value_in, initial_table}
+use Rattle.field_table.specs.Table.{value_in}
 use Rattle.field_table.proofs.Tables.{at_number, value_in-map}
-use Rattle.epochs.specs.FieldEpochs.{epoch_of, no_epochs}
+use Rattle.epochs.specs.FieldEpochs.{epoch_of}
 use Rattle.context_store.specs.Content.{Content, Stored, context_order}
-use Rattle.context_store.proofs.Contexts.{context_order_total, same_context-tied, are_tied}
+use Rattle.context_store.proofs.Contexts.{context_order_total, same_context-tied}
 use Rattle.wire_msgs.specs.declared.config.StartTab.{StartTab}
 use Rattle.protocol.specs.Seen.{Seen}
 use Rattle.protocol.specs.Start.{seen_at_start, nth_context, tab_of, is_of_tab, is_held_at_start, some_if}

@@ -1,14 +1,13 @@
 -- What a process answers behind a commit that it took.
-use Rattle.std.proofs.Common.{◌≡◌, ◌∙◌, refl, sym, ap, ap₂, subst, unwrap_or, ℕ, ◌+◌, Bool, true, false, if◌then◌else◌, List, [], ◌∷◌, length, map, Option, None, Some, true≢false}
+use Rattle.std.proofs.Common.{◌≡◌, ◌∙◌, refl, sym, ap, ap₂, subst, unwrap_or, ℕ, ◌+◌, Bool, true, false, if◌then◌else◌, List, [], ◌∷◌, map, Option, None, Some, true≢false}
 use Rattle.std.proofs.Math.Path.{fun_ext}
-use Rattle.std.specs.Prelude.{is_some, nat_lt, IfSome}
+use Rattle.std.specs.Prelude.{is_some, nat_lt}
 use Rattle.std.specs.FinMap.{get}
 use Rattle.std.specs.Option.{option_map, option_map_or}
 use Rattle.fission_ids.specs.declared.context.ContextId.{ContextId}
 use Rattle.fission_ids.specs.declared.epoch.Epoch.{Epoch}
 use Rattle.fission_ids.specs.Ids.{same_context}
 use Rattle.field_table.specs.declared.field.Field.{Field}
-use Rattle.field_table.specs.declared.field_set.FieldSet.{FieldSet}
 use Rattle.field_table.specs.declared.value.Value.{Value}
 use Rattle.field_table.specs.FieldSet.{minus}
 use Rattle.field_table.specs.Table.{value_in}
@@ -19,14 +18,13 @@ use Rattle.context_store.specs.Content.{Content, Stored, is_there, content_after
 use Rattle.context_store.proofs.Contexts.{changed_at-absent}
 use Rattle.wire_msgs.specs.declared.config.StartTab.{StartTab}
 use Rattle.wire_msgs.specs.declared.note.FieldNote.{FieldNote}
-use Rattle.wire_msgs.specs.declared.note.FieldMark.TheVariants.{Applied, Obsolete}
 use Rattle.wire_msgs.specs.declared.note.PartNote.{PartNote}
 use Rattle.wire_msgs.specs.declared.note.PartNote.TheVariants as notes
 use Rattle.wire_msgs.specs.declared.answer.Answer.TheVariants.{Parts}
 use Rattle.wire_msgs.specs.declared.part.DownPart.{DownPart}
 use Rattle.wire_msgs.specs.declared.part.DownPart.TheVariants.{Commit}
 use Rattle.protocol.specs.Hear.{modified_fields, changes_where, is_noted, is_applied}
-use Rattle.protocol.specs.Seen.{Seen, Doing}
+use Rattle.protocol.specs.Seen.{Seen}
 use Rattle.protocol.specs.Seen.Doing.{Given, Took}
 use Rattle.protocol.specs.SeenAfter.{seen_after}
 use Rattle.protocol.specs.Start.{is_held_at_start}

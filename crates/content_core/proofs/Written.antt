@@ -1,7 +1,7 @@
 -- What a process answers behind its own write.
-use Rattle.std.proofs.Common.{◌≡◌, ◌∙◌, refl, sym, ap, ap₂, ℕ, ◌+◌, Bool, true, false, ◌&&◌, if◌then◌else◌, List, length, [], ◌∷◌, subst, Option, None, Some, true≢false}
+use Rattle.std.proofs.Common.{◌≡◌, ◌∙◌, refl, sym, ap, ap₂, ℕ, ◌+◌, Bool, true, false, ◌&&◌, if◌then◌else◌, List, [], ◌∷◌, subst, Option, None, Some, true≢false}
 use Rattle.std.proofs.Math.Path.{fun_ext}
-use Rattle.std.specs.Prelude.{is_some, IfSome}
+use Rattle.std.specs.Prelude.{is_some}
 use Rattle.std.specs.FinMap.{get}
 use Rattle.std.specs.Option.{option_map, option_map_or}
 use Rattle.fission_ids.specs.declared.context.ContextId.{ContextId}

@@ -1,10 +1,9 @@
 -- What a process keeps, and what it answers by it.
-use Rattle.std.specs.Prelude.{◌≡◌, refl, ℕ, List, length, Bool, Option, None, Some, IfSome, ⊤}
+use Rattle.std.specs.Prelude.{◌≡◌, refl, ℕ, List, length, IfSome, ⊤}
 use Rattle.std.specs.Coded.{Coded, code_by, coded_ℕ, coded×, coded_list}
 use Rattle.std.specs.FinMap.{get}
 use Rattle.std.specs.Option.{option_map, option_map_or}
 use Rattle.fission_ids.specs.declared.context.ContextId.{ContextId}
-use Rattle.field_table.specs.declared.field.Field.{Field}
 use Rattle.field_table.specs.Field.{fields}
 use Rattle.field_table.specs.Table.{value_in}
 use Rattle.epochs.specs.FieldEpochs.{epoch_of}

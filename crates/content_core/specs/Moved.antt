@@ -1,5 +1,5 @@
 -- What a process's call gives: the rule's answer, what it answers behind it, and what it sends.
-use Rattle.std.specs.Prelude.{◌≡◌, ℕ, ◌-◌, ◌^◌, ◌<◌, List, [], ◌∷◌}
+use Rattle.std.specs.Prelude.{◌≡◌, ◌-◌, ◌^◌, ◌<◌, List, [], ◌∷◌}
 use Rattle.fission_ids.specs.declared.context.ContextId.{ContextId}
 use Rattle.transaction.specs.Transaction.{Changes}
 use Rattle.wire_msgs.specs.declared.part.DownPart.{DownPart}

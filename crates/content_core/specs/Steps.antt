@@ -1,5 +1,5 @@
 -- What the steps of a process are made of.
-use Rattle.std.specs.Prelude.{◌≡◌, ℕ, ◌+◌, ◌≤◌, Bool, true, false, ◌&&◌, if◌then◌else◌, List, [], ◌∷◌, map}
+use Rattle.std.specs.Prelude.{◌≡◌, ℕ, Bool, true, false, ◌&&◌, if◌then◌else◌, List, [], ◌∷◌, map}
 use Rattle.std.specs.Prelude.{Option, None, Some, is_some, unwrap_or}
 use Rattle.std.specs.FinMap.{get}
 use Rattle.std.specs.Option.{option_map_or}
@@ -29,7 +29,6 @@ use Rattle.protocol.specs.Seen.Doing.{Wrote}
 use Rattle.protocol.specs.SeenAfter.{seen_after}
 use Rattle.protocol.specs.Start.{is_held_at_start, some_if}
 use Rattle.protocol.specs.Take.{Step}
-use Rattle.content_core.specs.Content.{Kept}
 
 -- a context that no one wrote
 abbrev pub unwritten : Stored

@@ -1,12 +1,10 @@
 -- What the parent keeps behind each saying, by its answers.
-use Rattle.std.proofs.Common.{◌≡◌, ℕ, ◌<◌, ◌==◌, nat_lt, Bool, true, false, not, ◌&&◌, if◌then◌else◌, Some, List, [], ◌∷◌, length, Result, Ok, Err, refl, sym, ap, subst, ◌∙◌}
+use Rattle.std.proofs.Common.{◌≡◌, ℕ, ◌<◌, ◌==◌, nat_lt, Bool, true, false, ◌&&◌, if◌then◌else◌, Some, List, length, Result, Ok, Err, refl, sym, ap, subst, ◌∙◌}
 use Rattle.std.specs.Prelude.{IfOk}
 use Rattle.protocol.specs.Questions.{Facts}
 use Rattle.fission_ids.specs.declared.context.ContextId.{ContextId}
 use Rattle.fission_ids.specs.declared.process.ProcId.{ProcId}
-use Rattle.fission_ids.specs.declared.process.ProcSet.{ProcSet}
 use Rattle.fission_ids.specs.Ids.{same_context}
-use Rattle.fission_ids.specs.ProcSet.{has}
 use Rattle.field_table.specs.declared.field.Field.{Field}
 use Rattle.transaction.specs.Transaction.{Changes, new_value}
 use Rattle.context_store.specs.Content.{Content, Stored}
@@ -23,13 +21,13 @@ use Rattle.wire_msgs.specs.declared.part.DownPart.{DownPart}
 use Rattle.protocol.specs.Fold.{or_later}
 use Rattle.protocol.specs.Sayings.Saying.{Wrote, Counted as CountedOf}
 use Rattle.protocol.specs.FactsAfter.{facts_after, raised}
-use Rattle.protocol.specs.Bundle.{is_no_bundle}
 use Rattle.protocol.specs.Start.{numbers, facts_at_start, is_live, some_if}
 use Rattle.parent_core.specs.Parent.{Kept, Counted, counted_of, facts_of}
 use Rattle.parent_core.specs.Contents.{value_at}
-use Rattle.parent_core.specs.Sending.{bundles_to, part_to, counted_after, heard_after}
+use Rattle.parent_core.specs.Sending.{bundles_to, HaveParts, is_sent_to, sent_to, counted_after, heard_after}
+use Rattle.parent_core.specs.declared.sending.Posts.{Posts}
 use Rattle.parent_core.proofs.Facts.{same_facts, sent_all, sent_behind}
-use Rattle.parent_core.proofs.Sends.{behind_sends}
+use Rattle.parent_core.proofs.Sends.{behind_sends, sent_or_not}
 
 module _ (config : Config) (contexts : Content) (processes : List Counted) (before : Kept) (view : record { config = config; contexts = contexts; processes = processes } ≡ before) where
   -- fields were written
@@ -53,33 +51,29 @@ module _ (config : Config) (contexts : Content) (processes : List Counted) (befo
       (λ y fld. refl) (λ q. ap (λ (c : Counted). c.heard) (counts q)) (λ q. ap (λ (c : Counted). c.sent) (counts q))
       ∙ ap (λ (k : Kept). facts_after (CountedOf p) (facts_of k)) view
 
-  -- a part was sent to the processes of a set
-  pub facts_sent : (to : ProcSet) (part : DownPart) (new : List Counted) → length processes ≡ length config.types
-      → ((q : ℕ) → counted_of q new ≡ counted_after (nat_lt q (length processes) && has to q) (counted_of q processes))
-      → facts_of (record { config = config; contexts = contexts; processes = new }) ≡ behind_sends (length before.config.types) (part_to to part) (facts_of before)
-  facts_sent to part new len counts =
+  -- bundles were sent
+  pub facts_sent : (posts : Posts) (new : List Counted) → HaveParts posts → length processes ≡ length config.types
+      → ((q : ℕ) → counted_of q new ≡ counted_after (nat_lt q (length processes) && is_sent_to posts q) (counted_of q processes))
+      → facts_of (record { config = config; contexts = contexts; processes = new }) ≡ behind_sends (length before.config.types) (sent_to posts) (facts_of before)
+  facts_sent posts new have len counts =
       same_facts config.tabs (λ y fld. value_at y fld contexts) (λ y fld. value_at y fld contexts)
       (λ q. (counted_of q new).heard) (λ q. (counted_of q processes).heard) (λ q. (counted_of q new).sent)
-      (sent_behind (length config.types) (part_to to part) (λ q. (counted_of q processes).sent))
+      (sent_behind (length config.types) (sent_to posts) (λ q. (counted_of q processes).sent))
       (λ y fld. refl) (λ q. ap (λ (c : Counted). c.heard) (counts q))
       (λ q. ap (λ (c : Counted). c.sent) (counts q)
-      ∙ ap (λ n. raised (nat_lt q n && has to q) (counted_of q processes).sent) len
-      ∙ ap (λ b. raised (nat_lt q (length config.types) && b) (counted_of q processes).sent) (told (has to q)))
-      ∙ sym (sent_all (length config.types) (part_to to part) config.tabs (λ y fld. value_at y fld contexts) (λ q. (counted_of q processes).heard) (λ q. (counted_of q processes).sent))
-      ∙ ap (λ (k : Kept). behind_sends (length k.config.types) (part_to to part) (facts_of k)) view
-    where
-      told : (b : Bool) → b ≡ not (is_no_bundle (if b then part ∷ [] else []))
-      told true = refl
-      told false = refl
+      ∙ ap (λ n. raised (nat_lt q n && is_sent_to posts q) (counted_of q processes).sent) len
+      ∙ ap (λ b. raised (nat_lt q (length config.types) && b) (counted_of q processes).sent) (sent_or_not posts q have))
+      ∙ sym (sent_all (length config.types) (sent_to posts) config.tabs (λ y fld. value_at y fld contexts) (λ q. (counted_of q processes).heard) (λ q. (counted_of q processes).sent))
+      ∙ ap (λ (k : Kept). behind_sends (length k.config.types) (sent_to posts) (facts_of k)) view
 
   -- the bundles, by the answers
-  pub bundles_by : (to : ProcSet) (part : DownPart) (sent : List (ProcId × DownBundle)) → length processes ≡ length config.types
-      → sent ≡ bundles_to to (λ q. (counted_of q processes).heard) (part ∷ []) (numbers 0 (length processes))
-      → sent ≡ bundles_to to (facts_of before).processes.commits_heard (part ∷ []) (numbers 0 (length before.config.types))
-  bundles_by to part sent len is =
+  pub bundles_by : (sends : ℕ → List DownPart) (sent : List (ProcId × DownBundle)) → length processes ≡ length config.types
+      → sent ≡ bundles_to sends (λ q. (counted_of q processes).heard) (numbers 0 (length processes))
+      → sent ≡ bundles_to sends (facts_of before).processes.commits_heard (numbers 0 (length before.config.types))
+  bundles_by sends sent len is =
       is
-      ∙ ap (λ n. bundles_to to (λ q. (counted_of q processes).heard) (part ∷ []) (numbers 0 n)) len
-      ∙ ap (λ (k : Kept). bundles_to to (facts_of k).processes.commits_heard (part ∷ []) (numbers 0 (length k.config.types))) view
+      ∙ ap (λ n. bundles_to sends (λ q. (counted_of q processes).heard) (numbers 0 n)) len
+      ∙ ap (λ (k : Kept). bundles_to sends (facts_of k).processes.commits_heard (numbers 0 (length k.config.types))) view
 
 -- the values of the start
 pub values_started : (m : Content) (config : Config)

@@ -6,3 +6,4 @@ mod Denials
 mod Rulings
 mod Lists
 mod Kept
+mod Judged

@@ -1,17 +1,19 @@
 -- The rulings of a write of the parent, and of a commit that is heard.
-use Rattle.std.proofs.Common.{◌≡◌, ℕ, ◌<◌, ◌≤◌, ◌==◌, Bool, true, false, not, ◌&&◌, if◌then◌else◌, Option, None, Some, [], ◌∷◌, length, refl, sym, ap, ap₂, subst, ◌∙◌, arith}
+use Rattle.std.proofs.Common.{◌≡◌, ℕ, ◌<◌, ◌≤◌, ◌==◌, Bool, true, false, not, ◌&&◌, if◌then◌else◌, Option, None, Some, List, [], ◌∷◌, length, refl, sym, ap, ap₂, subst, ◌∙◌, arith}
 use Rattle.std.specs.Prelude.{is_some}
 use Rattle.std.specs.List.{list_any}
 use Rattle.std.specs.Option.{option_map_or}
 use Rattle.fission_ids.specs.declared.context.ContextId.{ContextId}
 use Rattle.fission_ids.specs.declared.process.ProcSet.{ProcSet}
 use Rattle.fission_ids.specs.ProcSet.{has}
-use Rattle.field_table.specs.Field.{fields}
+use Rattle.field_table.specs.declared.field.Field.{Field}
+use Rattle.field_rules.specs.Bounds.{Bounds}
 use Rattle.transaction.specs.Transaction.{Changes}
 use Rattle.wire_msgs.specs.declared.action.ParentAction.TheVariants.{Set}
 use Rattle.wire_msgs.specs.declared.answer.Answer.TheVariants.{Done, Refused, Parts}
 use Rattle.wire_msgs.specs.declared.bundle.UpBundle.{UpBundle}
-use Rattle.wire_msgs.specs.declared.note.PartNote.TheVariants.{CommitIgnored}
+use Rattle.wire_msgs.specs.declared.note.FieldNote.{FieldNote}
+use Rattle.wire_msgs.specs.declared.note.PartNote.TheVariants.{CommitIgnored, Commit as CommitNote}
 use Rattle.wire_msgs.specs.declared.part.DownPart.{DownPart}
 use Rattle.wire_msgs.specs.declared.part.DownPart.TheVariants.{Commit}
 use Rattle.wire_msgs.specs.declared.part.UpPart.TheVariants as ups
@@ -21,18 +23,20 @@ use Rattle.protocol.specs.Questions.{Facts, is_told, is_judged}
 use Rattle.protocol.specs.Sayings.Saying.{Wrote, Counted}
 use Rattle.protocol.specs.Fold.{behind_all}
 use Rattle.protocol.specs.FactsAfter.{facts_after}
-use Rattle.protocol.specs.Hear.{commit_unless_empty}
+use Rattle.protocol.specs.Hear.{commit_unless_empty, denied_of, field_notes, values_where, is_noted, is_reverted}
+use Rattle.protocol.specs.Outside.{allowed_in, allowed_of, changes_in}
+use Rattle.protocol.specs.Commits.{applied, judged_ruling, ignored_ruling, commit_ruling}
 use Rattle.protocol.specs.Order.{in_order, parts_with_all}
 use Rattle.protocol.specs.ParentActs.{action_ruling, done_ruling, refusal, refused_if, denial_refused, says, answer, posts}
 use Rattle.protocol.specs.Bundle.{Ruling, bundle_ruling}
 use Rattle.protocol.specs.Start.{is_live, numbers}
-use Rattle.protocol.proofs.Commits.{AllFree}
+use Rattle.protocol.proofs.Judging.{denied_is}
 use Rattle.protocol.proofs.Honest.{IsDue, honest_ruling}
 use Rattle.parent_core.specs.Parent.{Kept, facts_of}
 use Rattle.parent_core.specs.Ruled.{RuledBy, IsHonest, bundles_of}
-use Rattle.parent_core.specs.Sending.{part_to}
-use Rattle.parent_core.specs.Hearing.{allowed_answer, allowed_ruling, ignored_ruling, commit_ruling}
-use Rattle.parent_core.specs.Writes.{denied_in_write}
+use Rattle.parent_core.specs.Sending.{sent_to}
+use Rattle.parent_core.specs.Writes.{denied_in_write, part_to}
+use Rattle.parent_core.specs.declared.sending.Posts.{Posts}
 use Rattle.parent_core.specs.declared.ruled.Ruled.{Ruled}
 use Rattle.parent_core.proofs.Sends.{plain_ruling, ruled_quiet, ruled_alike}
 
@@ -96,76 +100,111 @@ set_done k x t to r live allowed told ruled =
     ∙ done_is n x t f) in
     subst (λ (rl : Ruling Facts). RuledBy k rl r) rule alike
 
+-- what is sent to a set alone
+pub ruled_to : (k : Kept) (part : DownPart) (posts : Posts) (to : ProcSet) (f : Facts) (r : Ruled) → posts.to ≡ to → ((q : ℕ) → has posts.back_to q ≡ false) → posts.parts ≡ part ∷ []
+    → RuledBy k (plain_ruling (length k.config.types) Done (sent_to posts) f) r → RuledBy k (plain_ruling (length k.config.types) Done (part_to to part) f) r
+ruled_to k part posts to f r same none parts ruled =
+    ruled_alike k (length k.config.types) Done (sent_to posts) (part_to to part) f r refl
+    (λ q lt. ap (λ b. if b then posts.back else if has posts.to q then posts.parts else []) (none q) ∙ ap₂ (λ (s : ProcSet) (ds : List DownPart). if has s q then ds else []) same parts) ruled
+
 -- ---- a commit that is heard
 
-part_told : (some own told : Bool) (part : DownPart) → (if some && (not own && told) then part ∷ [] else []) ≡ (if own then [] else if told then (if some then part ∷ [] else []) else [])
-part_told true true told part = refl
-part_told true false true part = refl
-part_told true false false part = refl
-part_told false true told part = refl
-part_told false false true part = refl
-part_told false false false part = refl
+-- what is sent to the sender, and to the others
+two_told : (back own some told : Bool) (a b : DownPart) → (if back && own then a ∷ [] else if some && (not own && told) then b ∷ [] else [])
+    ≡ (if own then (if back then a ∷ [] else []) else if told then (if some then b ∷ [] else []) else [])
+two_told true true some told a b = refl
+two_told false true true told a b = refl
+two_told false true false told a b = refl
+two_told true false true true a b = refl
+two_told true false true false a b = refl
+two_told true false false true a b = refl
+two_told true false false false a b = refl
+two_told false false true true a b = refl
+two_told false false true false a b = refl
+two_told false false false true a b = refl
+two_told false false false false a b = refl
 
-pub ruled_allowed : (k : Kept) (p : ℕ) (x : ContextId) (t : Changes) (all to : ProcSet) (r : Ruled) → length k.config.types ≤ 16
-    → ((q : ℕ) → has all q ≡ is_told (facts_of k) q x) → ((q : ℕ) → q < 16 → has to q ≡ (list_any is_some t && (not (q == p) && has all q)))
-    → RuledBy k (plain_ruling (length k.config.types) (allowed_answer x t) (part_to to (Commit x t)) (facts_after (Wrote x t) (facts_of k))) r
-    → RuledBy k (allowed_ruling (length k.config.types) p x t (facts_of k)) r
-ruled_allowed k p x t all to r few told others ruled =
+-- a commit that is judged by these notes
+pub ruled_judged : (k : Kept) (p : ℕ) (x : ContextId) (t applied_is back_is : Changes) (ns : List FieldNote) (all : ProcSet) (posts : Posts) (r : Ruled) → length k.config.types ≤ 16
+    → applied_is ≡ applied ns t → back_is ≡ values_where (is_noted is_reverted ns) (facts_of k) x
+    → ((q : ℕ) → has all q ≡ is_told (facts_of k) q x)
+    → ((q : ℕ) → q < 16 → has posts.to q ≡ (list_any is_some applied_is && (not (q == p) && has all q))) → posts.parts ≡ Commit x applied_is ∷ []
+    → ((q : ℕ) → q < 16 → has posts.back_to q ≡ (list_any is_some back_is && q == p)) → posts.back ≡ Commit x back_is ∷ []
+    → RuledBy k (plain_ruling (length k.config.types) (Parts (CommitNote x ns ∷ [])) (sent_to posts) (facts_after (Wrote x applied_is) (facts_of k))) r
+    → RuledBy k (judged_ruling (λ f. f) facts_after (length k.config.types) p x t ns (facts_of k)) r
+ruled_judged k p x t applied_is back_is ns all posts r few same_applied same_back told to parts back_to back ruled =
     let f = facts_of k in
-    ruled_alike k (length k.config.types) (allowed_answer x t) (part_to to (Commit x t)) (λ q. if q == p then [] else if is_told f q x then commit_unless_empty x t else [])
-    (facts_after (Wrote x t) f) r refl
+    let n = length k.config.types in
+    let sends : Changes → Changes → ℕ → List DownPart =
+    λ u v q. if q == p then commit_unless_empty x v else if is_told f q x then commit_unless_empty x u else [] in
+    let alike : RuledBy k (plain_ruling n (Parts (CommitNote x ns ∷ [])) (sends applied_is back_is) (facts_after (Wrote x applied_is) f)) r =
+    ruled_alike k n (Parts (CommitNote x ns ∷ [])) (sent_to posts) (sends applied_is back_is) (facts_after (Wrote x applied_is) f) r refl
     (λ q lt.
-    ap (λ b. if b then Commit x t ∷ [] else []) (others q (omega arith) ∙ ap (λ b. list_any is_some t && (not (q == p) && b)) (told q))
-    ∙ part_told (list_any is_some t) (q == p) (is_told f q x) (Commit x t)) ruled
+    ap₂ (λ (b : Bool) (ds : List DownPart). if b then ds else if has posts.to q then posts.parts else []) (back_to q (omega arith)) back
+    ∙ ap₂ (λ (b : Bool) (ds : List DownPart). if list_any is_some back_is && q == p then Commit x back_is ∷ [] else if b then ds else [])
+    (to q (omega arith) ∙ ap (λ b. list_any is_some applied_is && (not (q == p) && b)) (told q)) parts
+    ∙ two_told (list_any is_some back_is) (q == p) (list_any is_some applied_is) (is_told f q x) (Commit x back_is) (Commit x applied_is)) ruled in
+    subst (λ (u : Changes). RuledBy k (plain_ruling n (Parts (CommitNote x ns ∷ [])) (sends u (values_where (is_noted is_reverted ns) f x)) (facts_after (Wrote x u) f)) r) same_applied
+    (subst (λ (v : Changes). RuledBy k (plain_ruling n (Parts (CommitNote x ns ∷ [])) (sends applied_is v) (facts_after (Wrote x applied_is) f)) r) same_back alike)
 
 pub ruled_ignored : (k : Kept) (x : ContextId) (r : Ruled) → r ≡ record { core = k; answer = Parts (CommitIgnored x ∷ []); sent = [] }
-    → RuledBy k (ignored_ruling (length k.config.types) x (facts_of k)) r
-ruled_ignored k x r is = subst (RuledBy k (ignored_ruling (length k.config.types) x (facts_of k))) (sym is) (ruled_quiet k (Parts (CommitIgnored x ∷ [])))
+    → RuledBy k (ignored_ruling (λ f. f) facts_after (length k.config.types) x (facts_of k)) r
+ruled_ignored k x r is = subst (RuledBy k (ignored_ruling (λ f. f) facts_after (length k.config.types) x (facts_of k))) (sym is) (ruled_quiet k (Parts (CommitIgnored x ∷ [])))
 
--- either, by whether the commit is judged
-pub ruled_judged : (k : Kept) (p : ℕ) (x : ContextId) (t : Changes) (r : Ruled) → is_judged (facts_of k) p x ≡ true
-    → RuledBy k (allowed_ruling (length k.config.types) p x t (facts_of k)) r → RuledBy k (commit_ruling (length k.config.types) p x t (facts_of k)) r
-ruled_judged k p x t r e ruled =
+-- the rule of a commit that is heard, by its notes
+abbrev pub heard_ruling : Kept → ℕ → ContextId → Changes → List FieldNote → Ruling Facts
+heard_ruling k p x t ns = commit_ruling (λ f. f) facts_after (length k.config.types) p x t ns (facts_of k)
+
+-- it is done where the commit is judged
+pub ruled_done : (k : Kept) (p : ℕ) (x : ContextId) (t : Changes) (ns : List FieldNote) (r : Ruled) → is_judged (facts_of k) p x ≡ true
+    → RuledBy k (judged_ruling (λ f. f) facts_after (length k.config.types) p x t ns (facts_of k)) r → RuledBy k (heard_ruling k p x t ns) r
+ruled_done k p x t ns r e ruled =
     let n = length k.config.types in
-    subst (λ (rl : Ruling Facts). RuledBy k rl r) (sym (ap (λ b. if b then allowed_ruling n p x t (facts_of k) else ignored_ruling n x (facts_of k)) e)) ruled
+    subst (λ (rl : Ruling Facts). RuledBy k rl r)
+    (sym (ap (λ b. if b then judged_ruling (λ f. f) facts_after n p x t ns (facts_of k) else ignored_ruling (λ f. f) facts_after n x (facts_of k)) e)) ruled
 
-pub ruled_unjudged : (k : Kept) (p : ℕ) (x : ContextId) (t : Changes) (r : Ruled) → is_judged (facts_of k) p x ≡ false
-    → RuledBy k (ignored_ruling (length k.config.types) x (facts_of k)) r → RuledBy k (commit_ruling (length k.config.types) p x t (facts_of k)) r
-ruled_unjudged k p x t r e ruled =
+-- else ignored
+pub ruled_unjudged : (k : Kept) (p : ℕ) (x : ContextId) (t : Changes) (ns : List FieldNote) (r : Ruled) → is_judged (facts_of k) p x ≡ false
+    → RuledBy k (ignored_ruling (λ f. f) facts_after (length k.config.types) x (facts_of k)) r → RuledBy k (heard_ruling k p x t ns) r
+ruled_unjudged k p x t ns r e ruled =
     let n = length k.config.types in
-    subst (λ (rl : Ruling Facts). RuledBy k rl r) (sym (ap (λ b. if b then allowed_ruling n p x t (facts_of k) else ignored_ruling n x (facts_of k)) e)) ruled
+    subst (λ (rl : Ruling Facts). RuledBy k rl r)
+    (sym (ap (λ b. if b then judged_ruling (λ f. f) facts_after n p x t ns (facts_of k) else ignored_ruling (λ f. f) facts_after n x (facts_of k)) e)) ruled
 
-top_stays : (k : Kept) (p : ℕ) (x : ContextId) → (facts_after (Counted p) (facts_of k)).contexts.above x ≡ None
+-- the count of a commit denies nothing
+still_allowed : (answers : Field → Bool) (k : Kept) (p : ℕ) (x : ContextId) (t : Changes) → denied_of (λ fld. false) (facts_of k) p x t ≡ [] → denied_of answers (facts_after (Counted p) (facts_of k)) p x t ≡ []
 unfolding facts_after
-top_stays k p x = refl
+still_allowed answers k p x t allowed =
+    denied_is answers (facts_after (Counted p) (facts_of k)) p x t ∙ sym (denied_is (λ fld. false) (facts_of k) p x t) ∙ allowed
 
-is_due : (k : Kept) (p : ℕ) (x : ContextId) (t : Changes) (b : UpBundle) → IsHonest (facts_of k) p b → b.parts ≡ ups.Commit x t ∷ [] → length t ≡ length fields → IsDue (facts_of k) p x t b
-is_due k p x t b honest parts whole =
+is_due : (k : Kept) (p : ℕ) (x : ContextId) (t : Changes) (b : UpBundle) → IsHonest (facts_of k) p b → b.parts ≡ ups.Commit x t ∷ [] → IsDue (facts_of k) p x t b
+is_due k p x t b honest parts = record { runs = refl; parts = parts; epoch = honest.epoch; seen = honest.seen }
+
+allowed_commit : (k : Kept) (p : ℕ) (x : ContextId) (t : Changes) (b : UpBundle) → IsHonest (facts_of k) p b → b.parts ≡ ups.Commit x t ∷ [] → denied_of (λ fld. false) (facts_of k) p x t ≡ []
+allowed_commit k p x t b honest parts =
     let same : honest.changes ≡ t = cc (honest.parts, parts) in
-    record {
-      runs = refl;
-      parts = parts;
-      free = subst (λ (u : Changes). AllFree u) same honest.free;
-      whole = whole;
-      epoch = honest.epoch;
-      seen = honest.seen;
-    }
+    let here : honest.context ≡ x = cc (honest.parts, parts) in
+    ap₂ (λ (y : ContextId) (u : Changes). denied_of (λ fld. false) (facts_of k) p y u) (sym here) (sym same) ∙ honest.allowed
 
 -- an honest bundle, by its one commit behind the count of it
-pub ruled_heard : (before counted : Kept) (p : ℕ) (x : ContextId) (t : Changes) (b : UpBundle) (r : Ruled) → IsHonest (facts_of before) p b → b.parts ≡ ups.Commit x t ∷ []
-    → length t ≡ length fields → counted.config ≡ before.config → facts_of counted ≡ facts_after (Counted p) (facts_of before)
-    → RuledBy counted (commit_ruling (length counted.config.types) p x t (facts_of counted)) r
-    → RuledBy before (bundle_ruling (λ f. f) facts_after (length before.config.types) (λ fld. false) p b (facts_of before)) r
-ruled_heard before counted p x t b r honest parts whole config facts ruled =
+pub ruled_heard : (bounds : Bounds) (before counted : Kept) (p : ℕ) (x : ContextId) (t : Changes) (b : UpBundle) (r : Ruled) → IsHonest (facts_of before) p b → b.parts ≡ ups.Commit x t ∷ []
+    → counted.config ≡ before.config → facts_of counted ≡ facts_after (Counted p) (facts_of before)
+    → RuledBy counted (heard_ruling counted p x t (field_notes (allowed_in bounds t) (facts_of counted) p x t)) r
+    → RuledBy before (bundle_ruling (λ f. f) facts_after (length before.config.types) (allowed_of bounds b) p b (facts_of before)) r
+ruled_heard bounds before counted p x t b r honest parts config facts ruled =
     let n = length before.config.types in
+    let rule_of : Ruling Facts = bundle_ruling (λ f. f) facts_after n (allowed_of bounds b) p b (facts_of before) in
     let len : length counted.config.types ≡ n = ap (λ c. length c.types) config in
-    let rule : commit_ruling (length counted.config.types) p x t (facts_of counted) ≡ bundle_ruling (λ f. f) facts_after n (λ fld. false) p b (facts_of before) =
-    ap₂ (λ m f. commit_ruling m p x t f) len facts
-    ∙ sym (honest_ruling (λ f. f) facts_after n (λ fld. false) p x t b (facts_of before) (is_due before p x t b honest parts whole) (top_stays before p x)) in
-    let moved : RuledBy counted (bundle_ruling (λ f. f) facts_after n (λ fld. false) p b (facts_of before)) r = subst (λ (rl : Ruling Facts). RuledBy counted rl r) rule ruled in
+    let asked : allowed_of bounds b ≡ allowed_in bounds t = ap (λ ps. allowed_in bounds (changes_in ps)) parts in
+    let rule : heard_ruling counted p x t (field_notes (allowed_in bounds t) (facts_of counted) p x t) ≡ rule_of =
+    ap₂ (λ m f. commit_ruling (λ g. g) facts_after m p x t (field_notes (allowed_in bounds t) f p x t) f) len facts
+    ∙ sym (honest_ruling (λ f. f) facts_after n (allowed_in bounds t) p x t b (facts_of before) (is_due before p x t b honest parts)
+    (still_allowed (allowed_in bounds t) before p x t (allowed_commit before p x t b honest parts)))
+    ∙ ap (λ (answers : Field → Bool). bundle_ruling (λ f. f) facts_after n answers p b (facts_of before)) (sym asked) in
+    let moved : RuledBy counted rule_of r = subst (λ (rl : Ruling Facts). RuledBy counted rl r) rule ruled in
     record {
       config = moved.config ∙ config;
       facts = moved.facts;
       answer = moved.answer;
-      sent = moved.sent ∙ ap (λ m. bundles_of (bundle_ruling (λ f. f) facts_after n (λ fld. false) p b (facts_of before)) (numbers 0 m)) len;
+      sent = moved.sent ∙ ap (λ m. bundles_of rule_of (numbers 0 m)) len;
     }

@@ -1,9 +1,8 @@
 -- What is sent: rulings that send alike, and the bundles of one part.
-use Rattle.std.proofs.Common.{◌≡◌, ℕ, zero, suc, ◌+◌, ◌-◌, ◌<◌, ◌≤◌, Bool, true, false, if◌then◌else◌, List, [], ◌∷◌, ◌++◌, length, refl, sym, ap, ap₂, ◌∙◌, arith}
+use Rattle.std.proofs.Common.{◌≡◌, ℕ, zero, suc, ◌+◌, ◌-◌, ◌<◌, ◌≤◌, Bool, true, false, not, ◌||◌, if◌then◌else◌, List, [], ◌∷◌, ◌++◌, length, refl, sym, ap, ap₂, ◌∙◌, arith}
 use Rattle.std.proofs.Common.{append_assoc}
 use Rattle.std.proofs.lemmas.List.{append-nil}
 use Rattle.fission_ids.specs.declared.process.ProcId.{ProcId}
-use Rattle.fission_ids.specs.declared.process.ProcSet.{ProcSet}
 use Rattle.fission_ids.specs.ProcSet.{has}
 use Rattle.wire_msgs.specs.declared.answer.Answer.{Answer}
 use Rattle.wire_msgs.specs.declared.bundle.DownBundle.{DownBundle}
@@ -15,7 +14,8 @@ use Rattle.protocol.specs.Bundle.{Ruling, after_sending, is_no_bundle, ruling, b
 use Rattle.protocol.specs.Start.{numbers}
 use Rattle.parent_core.specs.Parent.{Kept, facts_of}
 use Rattle.parent_core.specs.Ruled.{RuledBy, addressed, bundles_of}
-use Rattle.parent_core.specs.Sending.{bundle_if, bundles_to, part_to}
+use Rattle.parent_core.specs.Sending.{bundle_with, bundles_to, HaveParts, is_sent_to, sent_to}
+use Rattle.parent_core.specs.declared.sending.Posts.{Posts}
 use Rattle.parent_core.specs.declared.ruled.Ruled.{Ruled}
 
 -- the answers behind what the first n processes are sent
@@ -91,60 +91,96 @@ heard_behind (suc n) sends f = by (is_no_bundle (sends n)) (heard_behind n sends
     by true so = so
     by false so = so
 
-one_bundle : (b : Bool) (f : Facts) (q : ℕ) (part : DownPart) → bundle_if b q (f.processes.commits_heard q) (part ∷ []) ≡ addressed q (bundle_for f q (if b then part ∷ [] else []))
-one_bundle true f q part = refl
-one_bundle false f q part = refl
+one_bundle : (f : Facts) (q : ℕ) (ds : List DownPart) → addressed q (bundle_with (f.processes.commits_heard q) ds) ≡ addressed q (bundle_for f q ds)
+one_bundle f q [] = refl
+one_bundle f q (d ∷ ds) = refl
 
-bundles_told : (a : Answer) (f : Facts) (to : ProcSet) (part : DownPart) (qs : List ℕ)
-    → bundles_to to f.processes.commits_heard (part ∷ []) qs ≡ bundles_of (record { answer = a; kept = f; sends = part_to to part }) qs
-bundles_told a f to part [] = refl
-bundles_told a f to part (q ∷ qs) = ap₂ (λ xs ys. xs ++ ys) (one_bundle (has to q) f q part) (bundles_told a f to part qs)
+bundles_told : (a : Answer) (f : Facts) (sends : ℕ → List DownPart) (qs : List ℕ)
+    → bundles_to sends f.processes.commits_heard qs ≡ bundles_of (record { answer = a; kept = f; sends = sends }) qs
+bundles_told a f sends [] = refl
+bundles_told a f sends (q ∷ qs) = ap₂ (λ xs ys. xs ++ ys) (one_bundle f q (sends q)) (bundles_told a f sends qs)
 
--- what is sent to a set and counted is what a ruling sends
-pub ruled_sent : (before wrote after : Kept) (a : Answer) (to : ProcSet) (part : DownPart) (f : Facts) (sent : List (ProcId × DownBundle))
+-- what is sent and counted is what a ruling sends
+pub ruled_sent : (before wrote after : Kept) (a : Answer) (sends : ℕ → List DownPart) (f : Facts) (sent : List (ProcId × DownBundle))
     → wrote.config ≡ before.config → facts_of wrote ≡ f → after.config ≡ wrote.config
-    → facts_of after ≡ behind_sends (length wrote.config.types) (part_to to part) (facts_of wrote)
-    → sent ≡ bundles_to to (facts_of wrote).processes.commits_heard (part ∷ []) (numbers 0 (length wrote.config.types))
-    → RuledBy before (plain_ruling (length before.config.types) a (part_to to part) f) (record { core = after; answer = a; sent = sent })
-ruled_sent before wrote after a to part f sent config facts config_after facts_after sent_is =
+    → facts_of after ≡ behind_sends (length wrote.config.types) sends (facts_of wrote)
+    → sent ≡ bundles_to sends (facts_of wrote).processes.commits_heard (numbers 0 (length wrote.config.types))
+    → RuledBy before (plain_ruling (length before.config.types) a sends f) (record { core = after; answer = a; sent = sent })
+ruled_sent before wrote after a sends f sent config facts config_after facts_after sent_is =
     let len : length wrote.config.types ≡ length before.config.types = ap (λ c. length c.types) config in
     let n = length before.config.types in
-    let told : sent ≡ bundles_to to f.processes.commits_heard (part ∷ []) (numbers 0 n) =
-    sent_is ∙ ap₂ (λ g m. bundles_to to g.processes.commits_heard (part ∷ []) (numbers 0 m)) facts len in
+    let told : sent ≡ bundles_to sends f.processes.commits_heard (numbers 0 n) =
+    sent_is ∙ ap₂ (λ g m. bundles_to sends g.processes.commits_heard (numbers 0 m)) facts len in
     record {
       config = config_after ∙ config;
-      facts = facts_after ∙ ap₂ (λ g m. behind_sends m (part_to to part) g) facts len;
+      facts = facts_after ∙ ap₂ (λ g m. behind_sends m sends g) facts len;
       answer = refl;
       sent =
           told
-          ∙ ap (λ (h : ℕ → ℕ). bundles_to to h (part ∷ []) (numbers 0 n)) (sym (heard_behind n (part_to to part) f))
-          ∙ bundles_told a (behind_sends n (part_to to part) f) to part (numbers 0 n);
+          ∙ ap (λ (h : ℕ → ℕ). bundles_to sends h (numbers 0 n)) (sym (heard_behind n sends f))
+          ∙ bundles_told a (behind_sends n sends f) sends (numbers 0 n);
     }
 
 -- ---- the loop over the processes
 
 -- the bundles of the processes from i on begin with that of i
-bundles_next : (to : ProcSet) (heard : ℕ → ℕ) (parts : List DownPart) (i n : ℕ) → i < n
-    → bundles_to to heard parts (numbers i (n - i)) ≡ bundle_if (has to i) i (heard i) parts ++ bundles_to to heard parts (numbers (i + 1) (n - (i + 1)))
-bundles_next to heard parts i n lt =
+bundles_next : (sends : ℕ → List DownPart) (heard : ℕ → ℕ) (i n : ℕ) → i < n
+    → bundles_to sends heard (numbers i (n - i)) ≡ addressed i (bundle_with (heard i) (sends i)) ++ bundles_to sends heard (numbers (i + 1) (n - (i + 1)))
+bundles_next sends heard i n lt =
     let left : n - i ≡ suc (n - (i + 1)) = omega arith in
     let one : suc i ≡ i + 1 = omega arith in
-    ap (λ m. bundles_to to heard parts (numbers i m)) left
-    ∙ ap (λ k. bundle_if (has to i) i (heard i) parts ++ bundles_to to heard parts (numbers k (n - (i + 1)))) one
+    ap (λ m. bundles_to sends heard (numbers i m)) left
+    ∙ ap (λ k. addressed i (bundle_with (heard i) (sends i)) ++ bundles_to sends heard (numbers k (n - (i + 1)))) one
 
-bundles_end : (to : ProcSet) (heard : ℕ → ℕ) (parts : List DownPart) (i n : ℕ) → n ≤ i → bundles_to to heard parts (numbers i (n - i)) ≡ []
-bundles_end to heard parts i n le = let none : n - i ≡ 0 = omega arith in ap (λ m. bundles_to to heard parts (numbers i m)) none
+bundles_end : (sends : ℕ → List DownPart) (heard : ℕ → ℕ) (i n : ℕ) → n ≤ i → bundles_to sends heard (numbers i (n - i)) ≡ []
+bundles_end sends heard i n le = let none : n - i ≡ 0 = omega arith in ap (λ m. bundles_to sends heard (numbers i m)) none
 
-pub bundles_more : (to : ProcSet) (heard : ℕ → ℕ) (parts : List DownPart) (i n : ℕ) (sent new all : List (ProcId × DownBundle)) (told : Bool) (h : ℕ) → i < n → told ≡ has to i → h ≡ heard i
-    → new ≡ sent ++ bundle_if told i h parts → sent ++ bundles_to to heard parts (numbers i (n - i)) ≡ all → new ++ bundles_to to heard parts (numbers (i + 1) (n - (i + 1))) ≡ all
-bundles_more to heard parts i n sent new all told h lt told_is h_is new_is so_far =
-    let rest = bundles_to to heard parts (numbers (i + 1) (n - (i + 1))) in
-    ap (λ (xs : List (ProcId × DownBundle)). xs ++ rest) (new_is ∙ ap₂ (λ b k. sent ++ bundle_if b i k parts) told_is h_is)
-    ∙ append_assoc sent (bundle_if (has to i) i (heard i) parts) rest
-    ∙ sym (ap (λ (xs : List (ProcId × DownBundle)). sent ++ xs) (bundles_next to heard parts i n lt))
+pub bundles_more : (sends : ℕ → List DownPart) (heard : ℕ → ℕ) (i n : ℕ) (sent new all : List (ProcId × DownBundle)) → i < n
+    → new ≡ sent ++ addressed i (bundle_with (heard i) (sends i)) → sent ++ bundles_to sends heard (numbers i (n - i)) ≡ all → new ++ bundles_to sends heard (numbers (i + 1) (n - (i + 1))) ≡ all
+bundles_more sends heard i n sent new all lt new_is so_far =
+    let rest = bundles_to sends heard (numbers (i + 1) (n - (i + 1))) in
+    ap (λ (xs : List (ProcId × DownBundle)). xs ++ rest) new_is
+    ∙ append_assoc sent (addressed i (bundle_with (heard i) (sends i))) rest
+    ∙ sym (ap (λ (xs : List (ProcId × DownBundle)). sent ++ xs) (bundles_next sends heard i n lt))
     ∙ so_far
 
-pub bundles_done : (to : ProcSet) (heard : ℕ → ℕ) (parts : List DownPart) (i n : ℕ) (sent all : List (ProcId × DownBundle)) → n ≤ i
-    → sent ++ bundles_to to heard parts (numbers i (n - i)) ≡ all → sent ≡ all
-bundles_done to heard parts i n sent all le so_far =
-    sym (append-nil sent) ∙ sym (ap (λ (xs : List (ProcId × DownBundle)). sent ++ xs) (bundles_end to heard parts i n le)) ∙ so_far
+pub bundles_done : (sends : ℕ → List DownPart) (heard : ℕ → ℕ) (i n : ℕ) (sent all : List (ProcId × DownBundle)) → n ≤ i
+    → sent ++ bundles_to sends heard (numbers i (n - i)) ≡ all → sent ≡ all
+bundles_done sends heard i n sent all le so_far =
+    sym (append-nil sent) ∙ sym (ap (λ (xs : List (ProcId × DownBundle)). sent ++ xs) (bundles_end sends heard i n le)) ∙ so_far
+
+-- ---- what one process is sent
+
+-- parts that are sent are no empty bundle
+pub sent_or_not : (posts : Posts) (q : ℕ) → HaveParts posts → is_sent_to posts q ≡ not (is_no_bundle (sent_to posts q))
+sent_or_not posts q have = by (has posts.back_to q) (has posts.to q)
+  where
+    by : (b t : Bool) → (b || t) ≡ not (is_no_bundle (if b then posts.back else if t then posts.parts else []))
+    by true t = sym (ap not have.back)
+    by false true = sym (ap not have.parts)
+    by false false = refl
+
+-- one process that isn't sent anything
+pub none_for : (posts : Posts) (q heard : ℕ) (sent : List (ProcId × DownBundle)) → is_sent_to posts q ≡ false → sent ≡ sent ++ addressed q (bundle_with heard (sent_to posts q))
+none_for posts q heard sent = by (has posts.back_to q) (has posts.to q)
+  where
+    by : (b t : Bool) → (b || t) ≡ false → sent ≡ sent ++ addressed q (bundle_with heard (if b then posts.back else if t then posts.parts else []))
+    by true t e = absurd (cc)
+    by false true e = absurd (cc)
+    by false false e = sym (append-nil sent)
+
+some_bundle : (heard q : ℕ) (ds : List DownPart) → is_no_bundle ds ≡ false → (record { 0 = q }, record { epoch = record { 0 = heard }; parts = ds }) ∷ [] ≡ addressed q (bundle_with heard ds)
+some_bundle heard q [] e = absurd (cc)
+some_bundle heard q (d ∷ ds) e = refl
+
+-- and one that is
+pub one_for : (posts : Posts) (q heard : ℕ) (ds : List DownPart) (sent new : List (ProcId × DownBundle)) → HaveParts posts → is_sent_to posts q ≡ true → ds ≡ sent_to posts q
+    → new ≡ sent ++ (record { 0 = q }, record { epoch = record { 0 = heard }; parts = ds }) ∷ [] → new ≡ sent ++ addressed q (bundle_with heard (sent_to posts q))
+one_for posts q heard ds sent new have told is e =
+    e ∙ ap (λ (xs : List (ProcId × DownBundle)). sent ++ xs)
+    (some_bundle heard q ds (ap is_no_bundle is ∙ not_not (is_no_bundle (sent_to posts q)) (sym (sent_or_not posts q have) ∙ told))
+    ∙ ap (λ es. addressed q (bundle_with heard es)) is)
+  where
+    not_not : (b : Bool) → not b ≡ true → b ≡ false
+    not_not true n = absurd (cc)
+    not_not false n = refl

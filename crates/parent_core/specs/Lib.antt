@@ -3,5 +3,4 @@ pub mod Ruled
 pub mod Codes
 pub mod Sending
 pub mod Writes
-pub mod Hearing
 pub mod Contents

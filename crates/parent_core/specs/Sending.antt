@@ -1,28 +1,41 @@
--- What is sent to the processes of a set, and what is counted then.
-use Rattle.std.specs.Prelude.{ℕ, Bool, true, false, List, [], ◌∷◌, ◌++◌, if◌then◌else◌}
+-- What is sent to the processes, and what is counted then.
+use Rattle.std.specs.Prelude.{◌≡◌, ℕ, Bool, false, ◌||◌, List, [], ◌∷◌, ◌++◌, if◌then◌else◌}
+use Rattle.std.specs.Prelude.{Option, None, Some}
 use Rattle.fission_ids.specs.declared.process.ProcId.{ProcId}
-use Rattle.fission_ids.specs.declared.process.ProcSet.{ProcSet}
 use Rattle.fission_ids.specs.ProcSet.{has}
 use Rattle.wire_msgs.specs.declared.bundle.DownBundle.{DownBundle}
 use Rattle.wire_msgs.specs.declared.part.DownPart.{DownPart}
+use Rattle.protocol.specs.Bundle.{is_no_bundle}
 use Rattle.protocol.specs.FactsAfter.{raised}
 use Rattle.parent_core.specs.Parent.{Counted}
+use Rattle.parent_core.specs.Ruled.{addressed}
+use Rattle.parent_core.specs.declared.sending.Posts.{Posts}
 
--- the bundle of a process of which this epoch was heard, if it is told
-abbrev pub bundle_if : Bool → ℕ → ℕ → List DownPart → List (ProcId × DownBundle)
-bundle_if false q heard parts = []
-bundle_if true q heard parts = (record { 0 = q }, record { epoch = record { 0 = heard }; parts = parts }) ∷ []
+-- whether process q is sent anything
+abbrev pub is_sent_to : Posts → ℕ → Bool
+is_sent_to posts q = has posts.back_to q || has posts.to q
 
--- the bundles of those of these processes that are in the set
-abbrev pub bundles_to : ProcSet → (ℕ → ℕ) → List DownPart → List ℕ → List (ProcId × DownBundle)
-bundles_to to heard parts [] = []
-bundles_to to heard parts (q ∷ qs) = bundle_if (has to q) q (heard q) parts ++ bundles_to to heard parts qs
+-- what process q is sent
+abbrev pub sent_to : Posts → ℕ → List DownPart
+sent_to posts q = if has posts.back_to q then posts.back else if has posts.to q then posts.parts else []
 
--- the part for the processes of a set
-abbrev pub part_to : ProcSet → DownPart → ℕ → List DownPart
-part_to to part q = if has to q then part ∷ [] else []
+-- there is no empty bundle
+pub record HaveParts (posts : Posts) : Type 0 where
+  pub parts : is_no_bundle posts.parts ≡ false
+  pub back : is_no_bundle posts.back ≡ false
 
--- the counts of a process, behind a bundle if it is told
+-- parts as a bundle for a process of which this epoch was heard; none is no bundle
+abbrev pub bundle_with : ℕ → List DownPart → Option DownBundle
+bundle_with heard [] = None
+bundle_with heard (d ∷ ds) = Some (record { epoch = record { 0 = heard }; parts = d ∷ ds })
+
+-- the bundles for these processes
+abbrev pub bundles_to : (ℕ → List DownPart) → (ℕ → ℕ) → List ℕ → List (ProcId × DownBundle)
+bundles_to sends heard [] = []
+bundles_to sends heard (q ∷ qs) =
+    addressed q (bundle_with (heard q) (sends q)) ++ bundles_to sends heard qs
+
+-- the counts of a process, behind a bundle if it is sent one
 abbrev pub counted_after : Bool → Counted → Counted
 counted_after told c = record { heard = c.heard; sent = raised told c.sent }
 

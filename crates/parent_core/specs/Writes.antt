@@ -1,20 +1,54 @@
 -- Writes to a top-level context: those that are heard, and those of the parent.
-use Rattle.std.specs.Prelude.{◌≡◌, true, false, List, [], ◌∷◌, filter, None, unwrap_or}
+use Rattle.std.specs.Prelude.{◌≡◌, ℕ, Bool, true, false, ◌&&◌, if◌then◌else◌, List, [], ◌∷◌, map, filter}
+use Rattle.std.specs.Prelude.{None, Some, is_some, unwrap_or}
 use Rattle.fission_ids.specs.declared.context.ContextId.{ContextId}
+use Rattle.fission_ids.specs.declared.process.ProcSet.{ProcSet}
+use Rattle.fission_ids.specs.ProcSet.{has as is_in}
 use Rattle.field_table.specs.declared.field.Field.{Field}
 use Rattle.field_table.specs.declared.value.Value.{Value}
 use Rattle.field_table.specs.declared.value.Value.TheVariants.{Flag}
+use Rattle.field_table.specs.declared.field_set.FieldSet.{FieldSet}
+use Rattle.field_table.specs.FieldSet.{has}
 use Rattle.transaction.specs.Transaction.{Changes, new_value}
+use Rattle.wire_msgs.specs.declared.part.DownPart.{DownPart}
 use Rattle.wire_msgs.specs.declared.part.UpPart.{UpPart}
 use Rattle.wire_msgs.specs.declared.part.UpPart.TheVariants.{Commit}
-use Rattle.field_rules.specs.Rules.{Question, is_denied}
-use Rattle.protocol.specs.Hear.{modified_fields}
+use Rattle.wire_msgs.specs.declared.note.FieldNote.{FieldNote}
+use Rattle.wire_msgs.specs.declared.note.FieldMark.TheVariants.{Applied, Reverted}
+use Rattle.field_rules.specs.Bounds.{Bounds}
+use Rattle.field_rules.specs.Rules.{Question, is_denied, verdict}
+use Rattle.protocol.specs.Hear.{modified_fields, mark_of, is_reverted}
 
 -- the parts are one commit
 pub record IsOneCommit (parts : List UpPart) : Type 0 where
   pub context : ContextId
   pub changes : Changes
   pub is : parts ≡ Commit context changes ∷ []
+
+-- what is asked of the write of a field by process p, which owns the context or not
+abbrev pub question_of_heard : ℕ → ContextId → Bool → Field → Value → Question
+question_of_heard p x owns fld v = record {
+  field = fld;
+  value = v;
+  context = x;
+  top = true;
+  window = None;
+  from = Some (record { 0 = p });
+  owner_is_sender = owns;
+}
+
+-- whether a field that is modified is reverted, by the bounds of the rule functions
+abbrev pub is_reverted_in : Bounds → ℕ → ContextId → Bool → Changes → Field → Bool
+is_reverted_in b p x owns t fld =
+    is_some (new_value t fld)
+    && is_reverted (mark_of (verdict b
+    (question_of_heard p x owns fld (unwrap_or (new_value t fld) (Flag false)))))
+
+-- the notes of a commit of which these fields are reverted
+abbrev pub notes_with : FieldSet → Changes → List FieldNote
+notes_with reverted t = map
+    (λ fld. record { field = fld; mark = if has reverted fld then Reverted else Applied })
+    (modified_fields t)
 
 -- what is asked of the parent's write of a field
 abbrev pub question_of_write : ContextId → Field → Value → Question
@@ -33,3 +67,7 @@ abbrev pub denied_in_write : ContextId → Changes → List Field
 denied_in_write x t =
     filter (λ fld. is_denied (question_of_write x fld (unwrap_or (new_value t fld) (Flag false))))
     (modified_fields t)
+
+-- a part for the processes of a set
+abbrev pub part_to : ProcSet → DownPart → ℕ → List DownPart
+part_to to part q = if is_in to q then part ∷ [] else []

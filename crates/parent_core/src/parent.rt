@@ -1,12 +1,12 @@
 ghost use Rattle.std.specs.Prelude.{◌≡◌, ℕ, ◌<◌, ◌≤◌, ◌+◌, ◌-◌, ◌^◌, ◌∷◌, [], ◌==◌, ◌&&◌, not, length};
-ghost use Rattle.std.specs.Prelude.{is_some, IfOk, OnOk, MatchOption, true, false};
+ghost use Rattle.std.specs.Prelude.{is_some, if◌then◌else◌, map, None, IfOk, OnOk, MatchOption, true, false};
 ghost use Rattle.std.specs.List.{list_any};
 ghost use Rattle.std.specs.Option.{option_copied, option_map};
 ghost use Rattle.fission_ids.specs.ProcSet.{has};
 ghost use Rattle.wire_msgs.specs.Config.{ConfigFits};
 ghost use Rattle.wire_msgs.specs.declared.action.ParentAction.TheVariants as actions;
 ghost use Rattle.wire_msgs.specs.declared.part.DownPart.TheVariants as downs;
-ghost use Rattle.protocol.specs.Questions.{is_told};
+ghost use Rattle.protocol.specs.Questions.{is_told, is_owner};
 ghost use Rattle.protocol.specs.Sayings.Saying.{Counted, Wrote};
 ghost use Rattle.protocol.specs.Start.{facts_at_start, is_live, numbers};
 ghost use Rattle.protocol.specs.FactsAfter.{facts_after};
@@ -14,24 +14,33 @@ ghost use Rattle.protocol.specs.ParentActs.{action_ruling};
 ghost use Rattle.protocol.specs.Bundle.{after_sending, bundle_ruling, ruling};
 ghost use Rattle.parent_core.specs.Parent.{facts_of, IsPlayed};
 ghost use Rattle.parent_core.specs.Ruled.{RuledBy, Counts, IsHonest};
-ghost use Rattle.parent_core.specs.Sending.{bundles_to, part_to};
-ghost use Rattle.parent_core.specs.Hearing.{allowed_ruling, commit_ruling};
+ghost use Rattle.parent_core.specs.Sending.{bundles_to, HaveParts, sent_to};
+ghost use Rattle.parent_core.specs.Writes.{part_to};
+ghost use Rattle.protocol.specs.Commits.{commit_ruling, judged_ruling};
+ghost use Rattle.protocol.specs.Hear.{field_notes};
+ghost use Rattle.protocol.specs.Outside.{allowed_in, allowed_of};
+ghost use Rattle.field_rules.specs.RuleBounds.{bounds_of};
+ghost use Rattle.field_table.specs.Field.{fields};
+ghost use Rattle.field_table.specs.FieldSet.{has as has_field};
 ghost use Rattle.wire_msgs.specs.declared.note.PartNote.TheVariants as notes;
 
 use crate::contents::commit_to;
 use crate::process::{Process, count_sent, record_epoch};
 use crate::ruled::Ruled;
-use crate::sending::bundles;
+use crate::sending::{Posts, bundles, commit_part};
 use crate::starting::{contexts_of, start_processes};
 use crate::tabs::tab_of;
-use crate::writes::{allowed_answer, commit_in, denial, is_empty};
+use crate::writes::{
+    commit_in, denial, is_empty, judged_answer, reverted_fields, values_of, without,
+};
 use context_store::{SlabStore, Store};
-use field_table::{Field, Value};
-use fission_ids::{ContextId, Duplicate, Epoch, GroupId, Kept, OutOfMemory, ProcId, ProcSet, Seq};
+use field_rules::Rules;
+use field_table::{Field, FieldSet, Value};
+use fission_ids::{ContextId, Duplicate, Epoch, GroupId, OutOfMemory, ProcId, ProcSet, Seq};
 use std::alloc::Global;
 use std::marker::Model;
 use transaction::Transaction;
-use wire_msgs::{Answer, Config, DownBundle, DownPart, ParentAction, PartNote, Refusal, UpBundle};
+use wire_msgs::{Answer, Config, DownBundle, ParentAction, PartNote, Refusal, UpBundle};
 
 /// The parent, seen as what it keeps: its configuration, the live contexts with their fields, and the counts
 /// of each process.
@@ -110,21 +119,20 @@ impl Parent {
         }
     }
 
-    /// The parent hears a bundle of process p.
-    pub fn hear(self, p: ProcId, bundle: UpBundle) -> Result<Ruled, OutOfMemory>
+    /// The parent hears a bundle of process p, and judges it by the rules.
+    pub fn hear(self, rules: &Rules, p: ProcId, bundle: UpBundle) -> Result<Ruled, OutOfMemory>
         requires process { p.0 < length self.config.types }
         requires honest { IsHonest (facts_of self) p.0 bundle }
         requires counts { Counts self }
         ensures { IfOk result (λ r. RuledBy self
-            (bundle_ruling (λ f. f) facts_after (length self.config.types) (λ fld. false) p.0 bundle
-            (facts_of self)) r) }
+            (bundle_ruling (λ f. f) facts_after (length self.config.types)
+            (allowed_of (bounds_of rules.now) bundle) p.0 bundle (facts_of self)) r) }
     {
         let UpBundle { epoch, parts, .. } = bundle;
         let (context, change) = commit_in(parts);
-        change.covers_each_field();
         let mut core = self;
         core.record(p, epoch);
-        core.judge(p, context, change)
+        core.judge(rules, p, context, change)
     }
 
     /// What the parent shows of a field. None exactly where the context isn't live.
@@ -198,7 +206,7 @@ impl Parent {
     {
         match denial(x, &t) {
             Some(why) => Ok(self.refuse(why)),
-            None => self.write(x, t, to, Answer::Done),
+            None => self.write_to(x, t, to),
         }
     }
 
@@ -214,22 +222,49 @@ impl Parent {
         }
     }
 
-    // A commit of process p is done where it is judged, else ignored.
-    fn judge(self, p: ProcId, x: ContextId, t: Transaction) -> Result<Ruled, OutOfMemory>
+    // The parent writes fields of a live context, and tells the processes of a set.
+    fn write_to(self, x: ContextId, t: Transaction, to: ProcSet) -> Result<Ruled, OutOfMemory>
+        requires counts { (q : ℕ) → (facts_of self).processes.bundles_sent q < 2 ^ 64 - 1 }
+        requires live { is_live self.config.tabs x ≡ true }
+        ensures { IfOk result (λ r. RuledBy self
+            (ruling (λ f. f) facts_after (length self.config.types) Answer.Done
+            (part_to to (downs.Commit x t)) (facts_after (Wrote x t) (facts_of self))) r) }
+    {
+        let parts = commit_part(self.alloc(), x, &t)?;
+        let posts = Posts {
+            to,
+            back: parts.copy()?,
+            parts,
+            back_to: ProcSet::EMPTY,
+        };
+        self.write(x, t, &posts, Answer::Done)
+    }
+
+    // A commit of process p is done as the rules judge it where it is judged, else ignored.
+    fn judge(
+        self,
+        rules: &Rules,
+        p: ProcId,
+        x: ContextId,
+        t: Transaction,
+    ) -> Result<Ruled, OutOfMemory>
         requires process { p.0 < length self.config.types }
         requires counts { (q : ℕ) → (facts_of self).processes.bundles_sent q < 2 ^ 64 - 1 }
         ensures { IfOk result (λ r. RuledBy self
-            (commit_ruling (length self.config.types) p.0 x t (facts_of self)) r) }
+            (commit_ruling (λ f. f) facts_after (length self.config.types) p.0 x t
+            (field_notes (allowed_in (bounds_of rules.now) t) (facts_of self) p.0 x t)
+            (facts_of self)) r) }
     {
         match self.subscribers(x) {
             None => self.ignore(x),
-            Some(all) => self.judge_live(p, x, t, all),
+            Some(all) => self.judge_live(rules, p, x, t, all),
         }
     }
 
     // A commit of process p to a live context is done where the process is subscribed, else ignored.
     fn judge_live(
         self,
+        rules: &Rules,
         p: ProcId,
         x: ContextId,
         t: Transaction,
@@ -240,19 +275,23 @@ impl Parent {
         requires live { is_live self.config.tabs x ≡ true }
         requires all { (q : ℕ) → has all q ≡ is_told (facts_of self) q x }
         ensures { IfOk result (λ r. RuledBy self
-            (commit_ruling (length self.config.types) p.0 x t (facts_of self)) r) }
+            (commit_ruling (λ f. f) facts_after (length self.config.types) p.0 x t
+            (field_notes (allowed_in (bounds_of rules.now) t) (facts_of self) p.0 x t)
+            (facts_of self)) r) }
     {
         self.has_few_processes();
         if all.has(p) {
-            self.allow(p, x, t, all)
+            self.apply(rules, p, x, t, all)
         } else {
             self.ignore(x)
         }
     }
 
-    // A commit of process p is done, and every other subscriber is told.
-    fn allow(
+    // A commit of process p is done: what is reverted goes back to it with the present values, and every
+    // other subscriber is told the rest.
+    fn apply(
         self,
+        rules: &Rules,
         p: ProcId,
         x: ContextId,
         t: Transaction,
@@ -263,12 +302,44 @@ impl Parent {
         requires live { is_live self.config.tabs x ≡ true }
         requires all { (q : ℕ) → has all q ≡ is_told (facts_of self) q x }
         ensures { IfOk result (λ r. RuledBy self
-            (allowed_ruling (length self.config.types) p.0 x t (facts_of self)) r) }
+            (judged_ruling (λ f. f) facts_after (length self.config.types) p.0 x t
+            (field_notes (allowed_in (bounds_of rules.now) t) (facts_of self) p.0 x t)
+            (facts_of self)) r) }
     {
         self.has_few_processes();
-        let answer = allowed_answer(self.alloc(), x, &t)?;
-        let to = others(all, p, &t);
-        self.write(x, t, to, answer)
+        let alloc = self.alloc();
+        let reverted = reverted_fields(rules, p, x, self.is_owner(p, x), &t);
+        let answer = judged_answer(alloc, x, &t, reverted)?;
+        let back = self.present(x, reverted)?;
+        let applied = without(t, reverted);
+        let posts = Posts {
+            to: others(all, p, &applied),
+            parts: commit_part(alloc, x, &applied)?,
+            back_to: sender(p, &back),
+            back: commit_part(alloc, x, &back)?,
+        };
+        self.write(x, applied, &posts, answer)
+    }
+
+    // Whether process p owns a context.
+    fn is_owner(&self, p: ProcId, x: ContextId) -> bool
+        ensures { result ≡ is_owner (facts_of self.now) p.0 x }
+    {
+        match tab_of(self.config.tabs.as_slice(), x) {
+            None => false,
+            Some(tab) => tab.owner == p,
+        }
+    }
+
+    // The parent's values of the fields of a set.
+    fn present(&self, x: ContextId, s: FieldSet) -> Result<Transaction, OutOfMemory>
+        ensures { IfOk result (λ t. t ≡ map
+            (λ f. if has_field s f then (facts_of self.now).contexts.value x f else None) fields) }
+    {
+        match self.contexts.get(x) {
+            None => Ok(Transaction::new()),
+            Some(fields) => values_of(fields, s),
+        }
     }
 
     // A commit changes and sends nothing.
@@ -288,25 +359,24 @@ impl Parent {
         })
     }
 
-    // Fields of a live context are written, and the processes of a set are told.
+    // Fields of a live context are written, and this is sent.
     fn write(
         self,
         x: ContextId,
         t: Transaction,
-        to: ProcSet,
+        posts: &Posts,
         answer: Answer,
     ) -> Result<Ruled, OutOfMemory>
         requires counts { (q : ℕ) → (facts_of self).processes.bundles_sent q < 2 ^ 64 - 1 }
         requires live { is_live self.config.tabs x ≡ true }
+        requires parts { HaveParts posts.now }
         ensures { IfOk result (λ r. RuledBy self
-            (ruling (λ f. f) facts_after (length self.config.types) answer (part_to to (downs.Commit x t))
+            (ruling (λ f. f) facts_after (length self.config.types) answer (sent_to posts.now)
             (facts_after (Wrote x t) (facts_of self))) r) }
     {
-        let alloc = self.alloc();
-        let change = Kept::of(alloc, t.copy()?)?;
         let mut core = self;
         core.commit(x, t);
-        let sent = core.send_out(DownPart::Commit { context: x, change }, to)?;
+        let sent = core.send_out(posts)?;
         Ok(Ruled { core, answer, sent })
     }
 
@@ -319,21 +389,18 @@ impl Parent {
         commit_to(&mut self.contexts, x, t);
     }
 
-    // The bundles of one part for the processes of a set, which are counted as sent.
-    fn send_out(
-        &mut self,
-        part: DownPart,
-        to: ProcSet,
-    ) -> Result<Seq<(ProcId, DownBundle)>, OutOfMemory>
-        requires { (q : ℕ) → (facts_of self.old).processes.bundles_sent q < 2 ^ 64 - 1 }
+    // The bundles that are sent, which are counted.
+    fn send_out(&mut self, posts: &Posts) -> Result<Seq<(ProcId, DownBundle)>, OutOfMemory>
+        requires counts { (q : ℕ) → (facts_of self.old).processes.bundles_sent q < 2 ^ 64 - 1 }
+        requires parts { HaveParts posts.now }
         ensures config { OnOk result (self.new.config ≡ self.old.config) }
         ensures facts { OnOk result (facts_of self.new ≡ after_sending (λ f. f) facts_after
-            (length self.old.config.types) (part_to to part) (facts_of self.old)) }
-        ensures sent { IfOk result (λ s. s ≡ bundles_to to (facts_of self.old).processes.commits_heard
-            (part ∷ []) (numbers 0 (length self.old.config.types))) }
+            (length self.old.config.types) (sent_to posts.now) (facts_of self.old)) }
+        ensures sent { IfOk result (λ s. s ≡ bundles_to (sent_to posts.now)
+            (facts_of self.old).processes.commits_heard (numbers 0 (length self.old.config.types))) }
     {
-        let sent = bundles(self.alloc, to, part, self.processes.as_slice())?;
-        count_sent(to, self.processes.as_mut_slice());
+        let sent = bundles(self.alloc, posts, self.processes.as_slice())?;
+        count_sent(posts, self.processes.as_mut_slice());
         Ok(sent)
     }
 
@@ -359,5 +426,17 @@ fn others(all: ProcSet, p: ProcId, t: &Transaction) -> ProcSet
         ProcSet::EMPTY
     } else {
         all.without(p)
+    }
+}
+
+// The process that is sent something back, if anything is modified, else none.
+fn sender(p: ProcId, t: &Transaction) -> ProcSet
+    requires { p.0 < 16 }
+    ensures { (q : ℕ) → q < 16 → has result q ≡ (list_any is_some t.now && q == p.0) }
+{
+    if is_empty(t) {
+        ProcSet::EMPTY
+    } else {
+        ProcSet::EMPTY.with(p)
     }
 }

@@ -1,10 +1,10 @@
 ghost use Rattle.std.specs.Prelude.{◌≡◌, ℕ, ◌+◌, ◌-◌, ◌^◌, ◌<◌, ◌==◌, ◌&&◌, length, nat_lt};
-ghost use Rattle.fission_ids.specs.ProcSet.{has};
 ghost use Rattle.parent_core.specs.Parent.{counted_of};
-ghost use Rattle.parent_core.specs.Sending.{counted_after, heard_after};
+ghost use Rattle.parent_core.specs.Sending.{counted_after, heard_after, is_sent_to};
 
+use crate::sending::Posts;
 use epochs::Heard;
-use fission_ids::{Epoch, ProcId, ProcSet};
+use fission_ids::{Epoch, ProcId};
 use std::marker::Model;
 
 /// What the parent counts of a process.
@@ -68,16 +68,17 @@ impl Process {
     }
 }
 
-/// Counts a bundle for each process of a set.
-pub(crate) fn count_sent(to: ProcSet, processes: &mut [Process])
+/// Counts the bundle of each process that is sent one.
+pub(crate) fn count_sent(posts: &Posts, processes: &mut [Process])
     requires few { length processes.old < 17 }
     requires counts { (p : ℕ) → (counted_of p processes.old).sent < 2 ^ 64 - 1 }
     ensures len { length processes.new ≡ length processes.old }
     ensures counts { (p : ℕ) → counted_of p processes.new ≡
-        counted_after (nat_lt p (length processes.old) && has to p) (counted_of p processes.old) }
+        counted_after (nat_lt p (length processes.old) && is_sent_to posts.now p)
+        (counted_of p processes.old) }
 {
     for i in 0..processes.len() {
-        processes[i].count_if(to.has(ProcId(i as u8)));
+        processes[i].count_if(posts.are_for(ProcId(i as u8)));
     }
 }
 

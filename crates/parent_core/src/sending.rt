@@ -1,81 +1,104 @@
-ghost use Rattle.std.specs.Prelude.{◌≡◌, ◌<◌, [], ◌∷◌, ◌++◌, length, IfOk, OnOk};
-ghost use Rattle.fission_ids.specs.ProcSet.{has};
+ghost use Rattle.std.specs.Prelude.{◌≡◌, ◌<◌, [], ◌∷◌, ◌++◌, length, true, false, IfOk, OnOk, MatchOption};
 ghost use Rattle.protocol.specs.Start.{numbers};
+ghost use Rattle.wire_msgs.specs.declared.part.DownPart.TheVariants as downs;
 ghost use Rattle.parent_core.specs.Parent.{counted_of};
-ghost use Rattle.parent_core.specs.Sending.{bundle_if, bundles_to};
+ghost use Rattle.parent_core.specs.Ruled.{addressed};
+ghost use Rattle.parent_core.specs.Sending.{bundle_with, bundles_to, HaveParts, is_sent_to, sent_to};
 
 use crate::process::Process;
-use fission_ids::{Duplicate, OutOfMemory, ProcId, ProcSet, Seq, Shared};
+use fission_ids::{ContextId, Duplicate, Kept, OutOfMemory, ProcId, ProcSet, Seq, Shared};
 use std::alloc::Global;
+use transaction::Transaction;
 use wire_msgs::{DownBundle, DownPart};
 
-/// The bundles of one part for the processes of a set, by their numbers. Each says the epoch that was heard
-/// last of its process, and all share the part.
-pub(crate) fn bundles(
-    alloc: Global,
-    to: ProcSet,
-    part: DownPart,
-    processes: &[Process],
-) -> Result<Seq<(ProcId, DownBundle)>, OutOfMemory>
-    requires { length processes.now < 17 }
-    ensures { IfOk result (λ s. s ≡ bundles_to to (λ q. (counted_of q processes.now).heard) (part ∷ [])
-        (numbers 0 (length processes.now))) }
-{
-    let parts = Shared::of(vec![in alloc; part]?)?;
-    bundles_with(alloc, to, &parts, processes)
+/// What a step sends: some parts to the processes of one set, and others to those of another.
+#[derive(Debug, Drop)]
+pub(crate) struct Posts {
+    pub(crate) to: ProcSet,
+    pub(crate) parts: Shared<DownPart>,
+    // These go before the first.
+    pub(crate) back_to: ProcSet,
+    pub(crate) back: Shared<DownPart>,
 }
 
-// The bundles of these parts for the processes of a set.
-fn bundles_with(
+impl Posts {
+    /// Whether process p is sent anything.
+    pub(crate) fn are_for(&self, p: ProcId) -> bool
+        requires { p.0 < 16 }
+        ensures { result ≡ is_sent_to self.now p.0 }
+    {
+        self.back_to.has(p) || self.to.has(p)
+    }
+
+    // What process p is sent.
+    fn parts_for(&self, p: ProcId) -> Option<&Shared<DownPart>>
+        requires { p.0 < 16 }
+        ensures { MatchOption result (is_sent_to self.now p.0 ≡ false) (λ parts.
+            (is_sent_to self.now p.0 ≡ true) × (parts.now ≡ sent_to self.now p.0)) }
+    {
+        if self.back_to.has(p) {
+            Some(&self.back)
+        } else if self.to.has(p) {
+            Some(&self.parts)
+        } else {
+            None
+        }
+    }
+}
+
+/// A commit, as the one part of bundles that share it.
+pub(crate) fn commit_part(
     alloc: Global,
-    to: ProcSet,
-    parts: &Shared<DownPart>,
+    x: ContextId,
+    t: &Transaction,
+) -> Result<Shared<DownPart>, OutOfMemory>
+    ensures { IfOk result (λ s. s ≡ downs.Commit x t.now ∷ []) }
+{
+    let change = Kept::of(alloc, t.copy()?)?;
+    let part = DownPart::Commit { context: x, change };
+    Ok(Shared::of(vec![in alloc; part]?)?)
+}
+
+/// The bundles that are sent, by the numbers of the processes. Each says the epoch that was heard last of its
+/// process, and those with the same parts share them.
+pub(crate) fn bundles(
+    alloc: Global,
+    posts: &Posts,
     processes: &[Process],
 ) -> Result<Seq<(ProcId, DownBundle)>, OutOfMemory>
-    requires { length processes.now < 17 }
-    ensures { IfOk result (λ s. s ≡ bundles_to to (λ q. (counted_of q processes.now).heard) parts.now
+    requires few { length processes.now < 17 }
+    requires parts { HaveParts posts.now }
+    ensures { IfOk result (λ s. s ≡ bundles_to (sent_to posts.now) (λ q. (counted_of q processes.now).heard)
         (numbers 0 (length processes.now))) }
 {
     let mut sent = Vec::new(alloc);
     for i in 0..processes.len() {
-        put_next(to, i, parts, processes, &mut sent)?;
+        put_next(posts, i, processes, &mut sent)?;
     }
     Ok(Seq::from_vec(sent))
 }
 
-// Puts the bundle of the i-th process at the end, if it is in the set.
+// Puts the bundle of the i-th process at the end, if it is sent any.
 fn put_next(
-    to: ProcSet,
+    posts: &Posts,
     i: usize,
-    parts: &Shared<DownPart>,
     processes: &[Process],
     sent: &mut Vec<(ProcId, DownBundle)>,
 ) -> Result<(), OutOfMemory>
     requires within { i < length processes.now }
     requires few { length processes.now < 17 }
-    ensures { OnOk result (sent.new.items ≡
-        sent.old.items ++ bundle_if (has to i) i (counted_of i processes.now).heard parts.now) }
+    requires parts { HaveParts posts.now }
+    ensures { OnOk result (sent.new.items ≡ sent.old.items
+        ++ addressed i (bundle_with (counted_of i processes.now).heard (sent_to posts.now i))) }
 {
     let p = ProcId(i as u8);
-    put_bundle(to.has(p), p, &processes[i], parts, sent)?;
-    Ok(())
-}
-
-// Puts the bundle of process p at the end, if it is told.
-fn put_bundle(
-    told: bool,
-    p: ProcId,
-    process: &Process,
-    parts: &Shared<DownPart>,
-    sent: &mut Vec<(ProcId, DownBundle)>,
-) -> Result<(), OutOfMemory>
-    ensures { OnOk result
-        (sent.new.items ≡ sent.old.items ++ bundle_if told p.0 process.now.heard parts.now) }
-{
-    if told {
-        let epoch = process.epoch();
-        let parts = parts.copy()?;
-        sent.push((p, DownBundle { epoch, parts }))?;
+    match posts.parts_for(p) {
+        None => Ok(()),
+        Some(parts) => {
+            let epoch = processes[i].epoch();
+            let parts = parts.copy()?;
+            sent.push((p, DownBundle { epoch, parts }))?;
+            Ok(())
+        }
     }
-    Ok(())
 }

@@ -1,19 +1,26 @@
 ghost use Rattle.std.specs.Prelude.{◌≡◌, ◌&&◌, ◌∷◌, [], not, map, filter, is_some, unwrap_or, false, IfOk};
+ghost use Rattle.std.specs.Prelude.{if◌then◌else◌, None, Some};
 ghost use Rattle.std.specs.List.{list_any};
 ghost use Rattle.field_table.specs.declared.field.Field.{Field};
 ghost use Rattle.field_table.specs.declared.value.Value.TheVariants.{Flag};
-ghost use Rattle.field_table.specs.FieldSet.{set_of};
+ghost use Rattle.field_table.specs.Field.{fields as all_fields};
+ghost use Rattle.field_table.specs.FieldSet.{has, set_of};
+ghost use Rattle.field_table.specs.Table.{value_in};
 ghost use Rattle.transaction.specs.Transaction.{new_value};
+ghost use Rattle.field_rules.specs.RuleBounds.{bounds_of};
 ghost use Rattle.field_rules.specs.Rules.{is_denied};
-ghost use Rattle.wire_msgs.specs.declared.note.FieldMark.TheVariants.{Applied};
+ghost use Rattle.wire_msgs.specs.declared.answer.Answer.TheVariants.{Parts};
+ghost use Rattle.wire_msgs.specs.declared.note.FieldMark.TheVariants.{Applied, Reverted};
+ghost use Rattle.wire_msgs.specs.declared.note.PartNote.TheVariants.{Commit as CommitNote};
+ghost use Rattle.protocol.specs.Hear.{is_reverted, mark_of};
 ghost use Rattle.wire_msgs.specs.declared.part.UpPart.TheVariants.{Commit};
 ghost use Rattle.protocol.specs.ParentActs.{denial_refused};
-ghost use Rattle.parent_core.specs.Hearing.{allowed_answer};
 ghost use Rattle.parent_core.specs.Writes.{IsOneCommit, question_of_write, denied_in_write};
+ghost use Rattle.parent_core.specs.Writes.{is_reverted_in, notes_with};
 
-use field_rules::{Ask, denied};
-use field_table::{Field, FieldSet};
-use fission_ids::{ContextId, OutOfMemory, Seq};
+use field_rules::{Ask, Rules, denied};
+use field_table::{Field, FieldSet, Fields, Verdict};
+use fission_ids::{ContextId, Duplicate, OutOfMemory, ProcId, Seq};
 use std::alloc::Global;
 use transaction::Transaction;
 use wire_msgs::{Answer, FieldMark, FieldNote, PartNote, Refusal, UpPart};
@@ -30,26 +37,82 @@ pub(crate) fn commit_in(parts: Seq<UpPart>) -> (ContextId, Transaction)
     }
 }
 
-/// The answer to a commit of a context whose fields are all allowed.
-pub(crate) fn allowed_answer(
+/// Which modified fields of a write of process p are reverted, where it owns the context or not.
+pub(crate) fn reverted_fields(
+    rules: &Rules,
+    p: ProcId,
+    x: ContextId,
+    owns: bool,
+    t: &Transaction,
+) -> FieldSet
+    ensures { result ≡ set_of (is_reverted_in (bounds_of rules.now) p.0 x owns t.now) }
+{
+    let mut reverted = FieldSet::EMPTY;
+    for f in Field::ALL {
+        if is_reverted_in(rules, p, x, owns, t, f) {
+            reverted = reverted.with(f);
+        }
+    }
+    reverted
+}
+
+// Whether a field is modified and reverted.
+fn is_reverted_in(
+    rules: &Rules,
+    p: ProcId,
+    x: ContextId,
+    owns: bool,
+    t: &Transaction,
+    f: Field,
+) -> bool
+    ensures { result ≡ is_reverted_in (bounds_of rules.now) p.0 x owns t.now f }
+{
+    match t.value(f) {
+        None => false,
+        Some(value) => !is_allowed(rules.judge(&Ask {
+            field: f,
+            value,
+            context: x,
+            top: true,
+            window: None,
+            from: Some(p),
+            owner_is_sender: owns,
+        })),
+    }
+}
+
+fn is_allowed(verdict: Verdict) -> bool
+    ensures { not result ≡ is_reverted (mark_of verdict) }
+{
+    match verdict {
+        Verdict::Allow => true,
+        Verdict::Deny | Verdict::Revert => false,
+    }
+}
+
+/// The answer to a commit of a context of which these fields are reverted.
+pub(crate) fn judged_answer(
     alloc: Global,
     x: ContextId,
     t: &Transaction,
+    reverted: FieldSet,
 ) -> Result<Answer, OutOfMemory>
-    ensures { IfOk result (λ a. a ≡ allowed_answer x t.now) }
+    ensures { IfOk result (λ a. a ≡ Parts (CommitNote x (notes_with reverted t.now) ∷ [])) }
 {
-    let fields = applied_notes(alloc, t, &Field::ALL)?;
+    let fields = field_notes(alloc, t, reverted, &Field::ALL)?;
     let note = PartNote::Commit(x, fields);
     Ok(Answer::Parts(Seq::from_vec(vec![in alloc; note]?)))
 }
 
-// What becomes of those of these fields that a commit modifies, where all are allowed.
-fn applied_notes(
+// What becomes of those of these fields that a commit modifies.
+fn field_notes(
     alloc: Global,
     t: &Transaction,
+    reverted: FieldSet,
     fields: &[Field],
 ) -> Result<Seq<FieldNote>, OutOfMemory>
-    ensures { IfOk result (λ s. s ≡ map (λ fld. record { field = fld; mark = Applied })
+    ensures { IfOk result (λ s. s ≡ map
+        (λ fld. record { field = fld; mark = if has reverted fld then Reverted else Applied })
         (filter (λ fld. is_some (new_value t.now fld)) fields.now)) }
 {
     let notes = fields
@@ -58,10 +121,46 @@ fn applied_notes(
         .filter(|f| t.value(*f).is_some())
         .map(|field| FieldNote {
             field,
-            mark: FieldMark::Applied,
+            mark: mark_in(reverted, field),
         })
         .collect(alloc)?;
     Ok(Seq::from_vec(notes))
+}
+
+// What becomes of a field that is modified.
+fn mark_in(reverted: FieldSet, f: Field) -> FieldMark
+    ensures { result ≡ (if has reverted f then Reverted else Applied) }
+{
+    if reverted.has(f) {
+        FieldMark::Reverted
+    } else {
+        FieldMark::Applied
+    }
+}
+
+/// A commit without some of its fields.
+pub(crate) fn without(t: Transaction, s: FieldSet) -> Transaction
+    ensures { result ≡ map (λ f. if has s f then None else new_value t f) all_fields }
+{
+    t.covers_each_field();
+    let mut rest = t;
+    let kept = rest.modified().minus(s);
+    rest.keep(kept);
+    rest
+}
+
+/// The values that a context has of the fields of a set.
+pub(crate) fn values_of(fields: &Fields, s: FieldSet) -> Result<Transaction, OutOfMemory>
+    ensures { IfOk result (λ t. t ≡
+        map (λ f. if has s f then Some (value_in fields.now f) else None) all_fields) }
+{
+    let mut values = Transaction::new();
+    for f in Field::ALL {
+        if s.has(f) {
+            values.set(f, fields.get(f).copy()?);
+        }
+    }
+    Ok(values)
 }
 
 /// Whether nothing is modified.

@@ -1,10 +1,6 @@
-use Rattle.std.proofs.Common.{◌≡◌, ◌∙◌, ◌<◌, ◌≤◌, ◌+◌, refl, ap, subst, List, length, take, arith}
+use Rattle.std.proofs.Common.{◌∙◌, ◌<◌, ◌+◌, refl, ap, length, arith}
 use Rattle.std.specs.FinMap.{get}
-use Rattle.std.proofs.lemmas.List.{take_all}
 use Rattle.context_store.specs.Content.{Content}
-use Rattle.wire_msgs.specs.declared.config.StartTab.{StartTab}
-use Rattle.protocol.specs.Start.{nth_context}
-use Rattle.content_core.specs.Steps.{HoldsFrom}
 use Rattle.content_core.proofs.Started.{HoldsFrom-none, HoldsFrom-next, HoldsFrom-more}
 use Rattle.content_core.proofs.content.contexts_at_start.Goals as goal
 

@@ -1,4 +1,4 @@
-use Rattle.std.proofs.Common.{◌≡◌, ◌∙◌, sym, ap, ℕ, ◌==◌, eq-eqb, true≢false}
+use Rattle.std.proofs.Common.{◌∙◌, sym, ap, eq-eqb, true≢false}
 use Rattle.std.proofs.lemmas.Bool.{eqb-true}
 use Rattle.field_table.specs.FieldSet.{set_of}
 use Rattle.content_core.specs.Content.{Kept}

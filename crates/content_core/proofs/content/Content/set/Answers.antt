@@ -1,6 +1,5 @@
-use Rattle.std.proofs.Common.{◌≡◌, ◌∙◌, sym, ap, subst, None, Option}
+use Rattle.std.proofs.Common.{◌∙◌, sym, ap}
 use Rattle.transaction.specs.Transaction.{Changes}
-use Rattle.wire_msgs.specs.declared.refusal.Refusal.{Refusal}
 use Rattle.wire_msgs.specs.declared.action.Action.TheVariants.{Set}
 use Rattle.protocol.specs.OwnActs.{refusal}
 use Rattle.content_core.specs.Content.{seen_of}

@@ -1,4 +1,4 @@
-use Rattle.std.proofs.Common.{◌≡◌, ◌∙◌, sym, ap, subst, List}
+use Rattle.std.proofs.Common.{◌∙◌, ap, subst, List}
 use Rattle.wire_msgs.specs.declared.config.StartTab.{StartTab}
 use Rattle.protocol.specs.Start.{seen_at_start}
 use Rattle.content_core.specs.Steps.{HoldsFrom}

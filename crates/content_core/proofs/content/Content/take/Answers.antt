@@ -1,5 +1,4 @@
-use Rattle.std.proofs.Common.{◌≡◌, ◌∙◌, refl, ap, List}
-use Rattle.wire_msgs.specs.declared.part.DownPart.{DownPart}
+use Rattle.std.proofs.Common.{◌∙◌, refl, ap}
 use Rattle.context_store.specs.Content.{stored_after_overlay}
 use Rattle.content_core.specs.Steps.{commit_of}
 use Rattle.content_core.proofs.Changing.{HoldsItsTabs-changed, KeepsLength-overlay}

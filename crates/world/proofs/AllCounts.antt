@@ -1,5 +1,5 @@
 -- The parent's counts of all that have a number, where those of the processes are in order.
-use Rattle.std.proofs.Common.{◌≡◌, ◌⊎◌, inl, inr, ℕ, zero, suc, ◌+◌, ◌-◌, ◌^◌, ◌<◌, ◌≤◌, List, [], ◌∷◌, length, get_or, refl, sym, ap, subst, ◌∙◌, arith}
+use Rattle.std.proofs.Common.{◌≡◌, ◌⊎◌, inl, inr, ℕ, zero, suc, ◌-◌, ◌^◌, ◌<◌, ◌≤◌, List, [], ◌∷◌, length, get_or, refl, ap, arith}
 use Rattle.parent_core.specs.Parent.{Kept, Counted, counted_of}
 use Rattle.parent_core.specs.Ruled.{Counts}
 use Rattle.std.proofs.lemmas.Bool.{cases_lt}

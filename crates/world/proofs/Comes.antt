@@ -1,28 +1,23 @@
 -- What a step comes to over the lists that the code has is what the model says of it.
-use Rattle.std.proofs.Common.{◌≡◌, ◌≢◌, ℕ, zero, suc, ◌+◌, ◌<◌, ◌≤◌, ◌==◌, Bool, true, false, if◌then◌else◌, List, [], ◌∷◌, ◌++◌, length, map, drop, set, get_or, slice_index_or, Option, None, Some, unwrap_or, refl, sym, ap, ap₂, subst, ◌∙◌, arith, eq-eqb, ne_eqb, eqb-true}
+use Rattle.std.proofs.Common.{◌≡◌, ◌≢◌, ℕ, suc, ◌+◌, ◌<◌, ◌≤◌, ◌==◌, Bool, true, false, if◌then◌else◌, List, [], ◌∷◌, ◌++◌, length, map, drop, set, Option, None, Some, unwrap_or, refl, sym, ap, ap₂, subst, ◌∙◌, arith, eq-eqb, ne_eqb, eqb-true}
 use Rattle.std.proofs.lemmas.List.{map-append}
 use Rattle.fission_ids.specs.declared.context.ContextId.{ContextId}
-use Rattle.fission_ids.specs.declared.process.ProcId.{ProcId}
 use Rattle.field_table.specs.declared.field.Field.{Field}
 use Rattle.transaction.specs.Transaction.{Changes}
 use Rattle.wire_msgs.specs.declared.action.Action.{Action}
 use Rattle.wire_msgs.specs.declared.action.Action.TheVariants as own
 use Rattle.wire_msgs.specs.declared.action.ParentAction.TheVariants.{Set}
 use Rattle.wire_msgs.specs.declared.answer.Answer.{Answer}
-use Rattle.wire_msgs.specs.declared.answer.Answer.TheVariants.{Refused}
 use Rattle.wire_msgs.specs.declared.bundle.DownBundle.{DownBundle}
 use Rattle.wire_msgs.specs.declared.bundle.UpBundle.{UpBundle}
 use Rattle.wire_msgs.specs.declared.config.Config.{Config}
 use Rattle.wire_msgs.specs.declared.part.DownPart.{DownPart}
 use Rattle.wire_msgs.specs.declared.part.DownPart.TheVariants.{Commit}
-use Rattle.wire_msgs.specs.declared.refusal.Refusal.TheVariants.{Empty}
-use Rattle.journal.specs.declared.entry.Step.{Step}
-use Rattle.protocol.specs.Questions.{Facts, is_told, is_judged}
-use Rattle.protocol.specs.Hear.{commit_unless_empty}
+use Rattle.protocol.specs.Questions.{Facts}
 use Rattle.protocol.specs.Sayings.{Saying}
 use Rattle.protocol.specs.Sayings.Saying.{Counted}
 use Rattle.protocol.specs.Seen.{Seen, Doing}
-use Rattle.protocol.specs.Start.{numbers}
+use Rattle.protocol.specs.Start.{numbers, seen_at_start}
 use Rattle.protocol.specs.FactsAfter.{facts_after}
 use Rattle.protocol.specs.SeenAfter.{seen_after}
 use Rattle.protocol.specs.Bundle.{Ruling, bundle_ruling, bundle_for}
@@ -31,26 +26,30 @@ use Rattle.protocol.specs.OwnActs.{action_step}
 use Rattle.protocol.specs.Take.{bundle_step, bundle_sent}
 use Rattle.protocol.specs.Take as take
 use Rattle.protocol.proofs.Readings.{Agrees, Meets, own_set_agrees, take_agrees, set_meets, commit_meets}
-use Rattle.protocol.specs.Hear.{changes_where, is_noted, is_applied as is_mark_applied}
-use Rattle.protocol.proofs.Commits.{applied_notes}
-use Rattle.protocol.proofs.Honest.{IsApplied, applied_as, ignored_ruling, commit_as, due_ruling}
-use Rattle.journal.specs.Step.{IsFree}
+use Rattle.protocol.specs.Hear.{denied_of, field_notes}
+use Rattle.protocol.specs.Commits.{commit_ruling}
+use Rattle.protocol.specs.Outside.{allowed_of}
+use Rattle.protocol.specs.OwnActs.{denied_to_process}
+use Rattle.protocol.proofs.Honest.{due_ruling}
+use Rattle.field_rules.specs.Bounds.{Bounds}
+use Rattle.wire_msgs.specs.declared.note.FieldNote.{FieldNote}
+use Rattle.model.specs.Next.{allowed_first}
+use Rattle.model.proofs.TiesStart.{same_denied}
 use Rattle.model.proofs.Ties.{IsHonest, own_bundle}
 use Rattle.fission_ids.specs.declared.epoch.Epoch.{Epoch}
 use Rattle.wire_msgs.specs.declared.part.UpPart.TheVariants as ups
-use Rattle.traces.specs.Event.{Bundle, Event}
+use Rattle.traces.specs.Event.{Bundle}
 use Rattle.traces.specs.Event.Event.{Takes, Accepts, Ignores}
 use Rattle.traces.specs.Links.{writes, writes_waiting, hears, bundles_waiting, takes, bundles_sent}
-use Rattle.model.specs.Parent.{asked, commits_heard}
-use Rattle.model.specs.Process.{own_asked}
-use Rattle.model.specs.Moments.{Moment, Written, ProcessEvent, said, did_by, events_of, facts_now, seen_now, for_one, written, told, down_bundle, only_answer, act_moment, taken_moment, parent_moment, heard_moment, heard as heard_event, events_heard, is_applied}
-use Rattle.model.specs.Moments.Written.{Own, Said}
+use Rattle.model.specs.Parent.{commits_heard}
+use Rattle.model.specs.Moments.{Moment, Written, ProcessEvent, said, events_of, facts_now, seen_now, for_one, written, told, down_bundle, act_moment, taken_moment, parent_moment, heard_moment, heard as heard_event, events_heard, is_judged as is_answer_judged}
+use Rattle.model.specs.Moments.Written.{Own}
 use Rattle.model.specs.Links.{up_waiting, down_waiting, own_bundles}
 use Rattle.parent_core.specs.Ruled.{bundles_of}
-use Rattle.world.specs.Sides.{Side, no_side, side_at, step_of_action, step_of_bundle, sides_after, sent_by, ups_after, waiting_at, links_with, delivered}
-use Rattle.world.specs.Came.{State, Came, acted, taken, ruled, heard}
+use Rattle.world.specs.Sides.{Side, no_side, side_at, step_of_action, step_of_bundle, sides_after, sent_by, ups_after, waiting_at, delivered}
+use Rattle.world.specs.Came.{Came, acted, taken, ruled, heard}
 use Rattle.world.specs.Stands.{side, state}
-use Rattle.world.proofs.Lists.{set_one, same_numbers, get_or-map-numbers, cut_more, cut_within}
+use Rattle.world.proofs.Lists.{set_one, same_numbers, get_or-map-numbers, cut_more, cut_with, cut_within}
 use Rattle.world.proofs.Waits.{ups_in, downs_in, Behind, with_sent, up_written, down_written, with_parts, down_told, up_told, hears_told}
 use Rattle.world.proofs.Delivered.{behind, with_bundle, all_delivered}
 use Rattle.world.proofs.LooksBack.{facts_with, seen_with, reads_said, reads_counted, reads_did}
@@ -212,22 +211,37 @@ own_take c ms p lt fine commits (d ∷ rest) waits =
 
 -- ---- what a hear does to the links of its process
 
-pub up_heard : (k : ℕ) (b : UpBundle) (a : Answer) (rest : List Written) (h : List ProcessEvent) → writes_waiting h ≡ Own b ∷ rest → writes_waiting (heard_event k b a ∷ h) ≡ rest
-up_heard k b a rest h waits = by (is_applied a)
+pub up_heard : (k : ℕ) (b : UpBundle) (a : Answer) (ds : List DownPart) (rest : List Written) (h : List ProcessEvent) → writes_waiting h ≡ Own b ∷ rest → writes_waiting (heard_event k b a ds ∷ h) ≡ rest
+up_heard k b a ds rest h waits = by ds (is_answer_judged a)
   where
     next : drop (hears h + 1) (writes h) ≡ rest
     next = let one : hears h + 1 ≡ suc (hears h) = omega arith in ap (λ n. drop n (writes h)) one ∙ cut_more (hears h) (writes h) (Own b) rest waits
 
-    by : (t : Bool) → writes_waiting ((if t then Accepts k (Own b) else Ignores k (Own b)) ∷ h) ≡ rest
-    by true = next
-    by false = next
+    either : (t : Bool) → writes_waiting ((if t then Accepts k (Own b) else Ignores k (Own b)) ∷ h) ≡ rest
+    either true = next
+    either false = next
 
-pub down_heard : (k : ℕ) (b : UpBundle) (a : Answer) (h : List ProcessEvent) → downs_in (heard_event k b a ∷ h) ≡ downs_in h
-down_heard k b a h = by (is_applied a)
+    by : (es : List DownPart) (t : Bool) → writes_waiting (heard_event k b a es ∷ h) ≡ rest
+    by [] t = either (is_answer_judged a)
+    by (e ∷ es) t = next
+
+pub down_heard : (k : ℕ) (b : UpBundle) (a : Answer) (ds : List DownPart) (h : List ProcessEvent) → Behind h → downs_in (heard_event k b a ds ∷ h) ≡ with_parts (hears h + 1) ds (downs_in h)
+down_heard k b a [] h fine = by (is_answer_judged a)
   where
     by : (t : Bool) → downs_in ((if t then Accepts k (Own b) else Ignores k (Own b)) ∷ h) ≡ downs_in h
     by true = refl
     by false = refl
+down_heard k b a (d ∷ ds) h fine =
+    let back : Bundle (List DownPart) = record { entry = k; epoch = hears h + 1; content = d ∷ ds } in
+    ap (map down_bundle) (cut_with (takes h) (bundles_sent h) back fine.down) ∙ map-append down_bundle (bundles_waiting h) (back ∷ [])
+
+pub hears_heard : (k : ℕ) (b : UpBundle) (a : Answer) (ds : List DownPart) (h : List ProcessEvent) → hears (heard_event k b a ds ∷ h) ≡ hears h + 1
+hears_heard k b a [] h = by (is_answer_judged a)
+  where
+    by : (t : Bool) → hears ((if t then Accepts k (Own b) else Ignores k (Own b)) ∷ h) ≡ hears h + 1
+    by true = refl
+    by false = refl
+hears_heard k b a (d ∷ ds) h = refl
 
 -- ---- a ruling of the parent
 
@@ -275,29 +289,29 @@ parent_set c ms k x t fine counts =
 
 heard_is : (c : Config) (ms : List Moment) (k p : ℕ) (b : UpBundle) (rest : List Written) (looked : Ruling (List Saying)) (plain : Ruling Facts) (m : Moment)
     → m ≡ record { says = looked.kept; did = λ q. []; events = events_heard k p b looked; answer = looked.answer }
-    → p < length c.types → writes_waiting (events_of p ms) ≡ Own b ∷ rest → looked.sends p ≡ []
+    → p < length c.types → writes_waiting (events_of p ms) ≡ Own b ∷ rest
     → Meets (facts_with c ms) looked plain
     → ((q : ℕ) → q < length c.types → Behind (events_of q ms))
     → ((q : ℕ) → q < length c.types → commits_heard q (said (m ∷ ms)) ≡ hears (events_of q (m ∷ ms)))
     → ruled (length c.types) plain (record (state c ms) { ups = set (state c ms).ups p (own_bundles rest) }) ≡ record { answer = m.answer; state = state c (m ∷ ms) }
-heard_is c ms k p b rest looked plain m is_m lt waits quiet is fine counts =
+heard_is c ms k p b rest looked plain m is_m lt waits is fine counts =
     same_came
     (sym is.answer ∙ ap (λ (n : Moment). n.answer) (sym is_m))
     (sym is.kept ∙ ap (λ (n : Moment). facts_now c (n ∷ ms)) (sym is_m))
     (sides_still c ms m (ap (λ (n : Moment). n.did) is_m))
     (set_one (λ q. up_waiting q ms) (λ q. up_waiting q (m ∷ ms)) (length c.types) p (own_bundles rest)
-    (sym (ap (λ (es : List ProcessEvent). ups_in (es ++ events_of p ms)) (events p ∙ at_it) ∙ ap own_bundles (up_heard k b looked.answer rest (events_of p ms) waits)))
+    (sym (ap (λ (es : List ProcessEvent). ups_in (es ++ events_of p ms)) (events p ∙ at_it) ∙ ap own_bundles (up_heard k b looked.answer (looked.sends p) rest (events_of p ms) waits)))
     (λ q other. ap (λ (es : List ProcessEvent). ups_in (es ++ events_of q ms)) (events q ∙ at_other q other) ∙ up_told k looked.kept (looked.sends q) (events_of q ms)))
     (downs_ruled c ms m plain (sym is.kept ∙ ap (λ (n : Moment). facts_now c (n ∷ ms)) (sym is_m)) (λ q below. by q below (q == p) refl))
   where
     events : (q : ℕ) → m.events q ≡ events_heard k p b looked q
     events q = ap (λ (n : Moment). n.events q) is_m
 
-    at_it : events_heard k p b looked p ≡ heard_event k b looked.answer ∷ []
-    at_it = ap (λ t. if t then heard_event k b looked.answer ∷ [] else told k looked.kept (looked.sends p) ∷ []) (eq-eqb p p refl)
+    at_it : events_heard k p b looked p ≡ heard_event k b looked.answer (looked.sends p) ∷ []
+    at_it = ap (λ t. if t then heard_event k b looked.answer (looked.sends p) ∷ [] else told k looked.kept (looked.sends p) ∷ []) (eq-eqb p p refl)
 
     at_other : (q : ℕ) → q ≢ p → events_heard k p b looked q ≡ told k looked.kept (looked.sends q) ∷ []
-    at_other q other = ap (λ t. if t then heard_event k b looked.answer ∷ [] else told k looked.kept (looked.sends q) ∷ []) (ne_eqb q p other)
+    at_other q other = ap (λ t. if t then heard_event k b looked.answer (looked.sends p) ∷ [] else told k looked.kept (looked.sends q) ∷ []) (ne_eqb q p other)
 
     sends : (q : ℕ) → looked.sends q ≡ plain.sends q
     sends q = ap (λ (f : ℕ → List DownPart). f q) is.sends
@@ -305,86 +319,83 @@ heard_is c ms k p b rest looked plain m is_m lt waits quiet is fine counts =
     by : (q : ℕ) → q < length c.types → (t : Bool) → (q == p) ≡ t → downs_in (m.events q ++ events_of q ms) ≡ with_parts (commits_heard q (said (m ∷ ms))) (plain.sends q) (down_waiting q ms)
     by q below true at =
         let same : q ≡ p = eqb-true q p at in
-        ap (λ (es : List ProcessEvent). downs_in (es ++ events_of q ms)) (events q ∙ ap (λ t. if t then heard_event k b looked.answer ∷ [] else told k looked.kept (looked.sends q) ∷ []) at)
-        ∙ down_heard k b looked.answer (events_of q ms)
-        ∙ ap (λ ds. with_parts (commits_heard q (said (m ∷ ms))) ds (down_waiting q ms)) (sym quiet ∙ ap looked.sends (sym same) ∙ sends q)
+        let told_it : m.events q ≡ heard_event k b looked.answer (looked.sends q) ∷ [] =
+        events q ∙ ap (λ t. if t then heard_event k b looked.answer (looked.sends p) ∷ [] else told k looked.kept (looked.sends q) ∷ []) at
+        ∙ ap (λ r. heard_event k b looked.answer (looked.sends r) ∷ []) (sym same) in
+        ap (λ (es : List ProcessEvent). downs_in (es ++ events_of q ms)) told_it
+        ∙ down_heard k b looked.answer (looked.sends q) (events_of q ms) (fine q below)
+        ∙ ap (λ n. with_parts n (looked.sends q) (down_waiting q ms))
+        (sym (counts q below ∙ ap (λ (es : List ProcessEvent). hears (es ++ events_of q ms)) told_it ∙ hears_heard k b looked.answer (looked.sends q) (events_of q ms)))
+        ∙ ap (λ ds. with_parts (commits_heard q (said (m ∷ ms))) ds (down_waiting q ms)) (sends q)
     by q below false at =
-        let told_it : m.events q ≡ told k looked.kept (looked.sends q) ∷ [] = events q ∙ ap (λ t. if t then heard_event k b looked.answer ∷ [] else told k looked.kept (looked.sends q) ∷ []) at in
+        let told_it : m.events q ≡ told k looked.kept (looked.sends q) ∷ [] = events q ∙ ap (λ t. if t then heard_event k b looked.answer (looked.sends p) ∷ [] else told k looked.kept (looked.sends q) ∷ []) at in
         ap (λ (es : List ProcessEvent). downs_in (es ++ events_of q ms)) told_it
         ∙ down_told k looked.kept (looked.sends q) (events_of q ms) (fine q below)
         ∙ ap (λ n. with_parts n (looked.sends q) (down_waiting q ms)) (sym (counts q below ∙ ap (λ (es : List ProcessEvent). hears (es ++ events_of q ms)) told_it ∙ hears_told k looked.kept (looked.sends q) (events_of q ms)))
         ∙ ap (λ ds. with_parts (commits_heard q (said (m ∷ ms))) ds (down_waiting q ms)) (sends q)
 
--- nothing goes back to a process whose bundle is due
-quiet_commit : {Kept : Type 0} (facts : Kept → Facts) (next : Saying → Kept → Kept) (n p : ℕ) (x : ContextId) (t u : Changes) (s : Kept) → (commit_as facts next n p x t u s).sends p ≡ []
-quiet_commit facts next n p x t u s = by (is_judged (facts s) p x)
-  where
-    by : (b : Bool) → (if b then applied_as facts next n p x t u s else ignored_ruling facts next n x s).sends p ≡ []
-    by true = ap (λ b. if b then [] else if is_told (facts s) p x then commit_unless_empty x u else []) (eq-eqb p p refl)
-    by false = refl
-
-module _ (c : Config) (ms : List Moment) (p : ℕ) (b : UpBundle) where
+module _ (c : Config) (ms : List Moment) (allows : Field → Bool) (p : ℕ) (b : UpBundle) where
   -- the ruling, looked back at
   abbrev pub looked_at : Ruling (List Saying)
-  looked_at = bundle_ruling (facts_with c ms) (λ y says. y ∷ says) (length c.types) (λ fld. false) p b []
+  looked_at = bundle_ruling (facts_with c ms) (λ y says. y ∷ says) (length c.types) allows p b []
 
   -- and over the answers alone
   abbrev plainly : Ruling Facts
-  plainly = bundle_ruling (λ f. f) facts_after (length c.types) (λ fld. false) p b (facts_now c ms)
+  plainly = bundle_ruling (λ f. f) facts_after (length c.types) allows p b (facts_now c ms)
 
 -- both come to the same commit where the bundle is the one that is due
-record ComesTo (c : Config) (ms : List Moment) (p : ℕ) (b : UpBundle) : Type 0 where
-  pub meets : Meets (facts_with c ms) (looked_at c ms p b) (plainly c ms p b)
-  pub quiet : (looked_at c ms p b).sends p ≡ []
-
-comes_to : (c : Config) (ms : List Moment) (p : ℕ) (x : ContextId) (t : Changes) (epoch : Epoch) (seen : ℕ) → IsFree t
+comes_to : (c : Config) (ms : List Moment) (allows : Field → Bool) (p : ℕ) (x : ContextId) (t : Changes) (epoch : Epoch) (seen : ℕ) → denied_to_process p (seen_at_start c.tabs p) x t ≡ []
     → epoch.0 ≡ (facts_now c ms).processes.commits_heard p + 1 → seen ≤ (facts_now c ms).processes.bundles_sent p
-    → ComesTo c ms p (record { epoch = epoch; seen = seen; parts = ups.Commit x t ∷ [] })
-unfolding facts_after
-comes_to c ms p x t epoch seen free due le =
+    → (let b : UpBundle = record { epoch = epoch; seen = seen; parts = ups.Commit x t ∷ [] } in
+    Meets (facts_with c ms) (looked_at c ms allows p b) (plainly c ms allows p b))
+comes_to c ms allows p x t epoch seen allowed due le =
     let n : ℕ = length c.types in
-    let u : Changes = changes_where (is_noted is_mark_applied (applied_notes t)) t in
-    let whole : IsApplied t u = refl in
     let b : UpBundle = record { epoch = epoch; seen = seen; parts = ups.Commit x t ∷ [] } in
-    let looked : looked_at c ms p b ≡ commit_as (facts_with c ms) (λ y says. y ∷ says) n p x t u (Counted p ∷ []) =
-    due_ruling (facts_with c ms) (λ y says. y ∷ says) n (λ fld. false) p x t u epoch seen [] refl free whole due le refl in
-    let plain : plainly c ms p b ≡ commit_as (λ f. f) facts_after n p x t u (facts_with c ms (Counted p ∷ [])) =
-    due_ruling (λ f. f) facts_after n (λ fld. false) p x t u epoch seen (facts_now c ms) refl free whole due le refl
-    ∙ ap (commit_as (λ f. f) facts_after n p x t u) (sym (reads_counted c ms p [])) in
-    record {
-      meets = subst (λ r. Meets (facts_with c ms) r (plainly c ms p b)) (sym looked)
-          (subst (λ r. Meets (facts_with c ms) (commit_as (facts_with c ms) (λ y says. y ∷ says) n p x t u (Counted p ∷ [])) r) (sym plain)
-          (commit_meets (facts_with c ms) (λ y says. y ∷ says) (reads_said c ms) n p x t u (Counted p ∷ [])));
-      quiet = ap (λ (r : Ruling (List Saying)). r.sends p) looked ∙ quiet_commit (facts_with c ms) (λ y says. y ∷ says) n p x t u (Counted p ∷ []);
-    }
+    let counted : facts_with c ms (Counted p ∷ []) ≡ facts_after (Counted p) (facts_now c ms) = reads_counted c ms p [] in
+    let none : denied_of allows (facts_with c ms (Counted p ∷ [])) p x t ≡ [] = same_denied allows c.tabs (Counted p ∷ said ms) p x t ∙ allowed in
+    let ns : List FieldNote = field_notes allows (facts_with c ms (Counted p ∷ [])) p x t in
+    let looked : looked_at c ms allows p b ≡ commit_ruling (facts_with c ms) (λ y says. y ∷ says) n p x t ns (Counted p ∷ []) =
+    due_ruling (facts_with c ms) (λ y says. y ∷ says) n allows p x t epoch seen [] refl due le none in
+    let plain : plainly c ms allows p b ≡ commit_ruling (λ f. f) facts_after n p x t ns (facts_with c ms (Counted p ∷ [])) =
+    due_ruling (λ f. f) facts_after n allows p x t epoch seen (facts_now c ms) refl due le (ap (λ (f : Facts). denied_of allows f p x t) (sym counted) ∙ none)
+    ∙ ap (λ (f : Facts). commit_ruling (λ g. g) facts_after n p x t (field_notes allows f p x t) f) (sym counted) in
+    subst (λ r. Meets (facts_with c ms) r (plainly c ms allows p b)) (sym looked)
+    (subst (λ r. Meets (facts_with c ms) (commit_ruling (facts_with c ms) (λ y says. y ∷ says) n p x t ns (Counted p ∷ [])) r) (sym plain)
+    (commit_meets (facts_with c ms) (λ y says. y ∷ says) (reads_said c ms) n p x t ns (Counted p ∷ [])))
 
 -- what the parent finds as it hears process p
 abbrev pub HeardDue : Config → List Moment → ℕ → Written → Type 0
 HeardDue c ms p w = IsHonest c.tabs p ((facts_now c ms).processes.bundles_sent p) ((facts_now c ms).processes.commits_heard p + 1) w
 
-hear_own : (c : Config) (ms : List Moment) (p : ℕ) → p < length c.types
+-- the moment of a hear, by the bounds
+abbrev pub hear_by : Bounds → Config → ℕ → List Moment → List Written → Moment
+hear_by bounds c p ms ws = heard_moment c p ms (allowed_first bounds ws) ws
+
+hear_own : (bounds : Bounds) (c : Config) (ms : List Moment) (p : ℕ) → p < length c.types
     → ((q : ℕ) → q < length c.types → Behind (events_of q ms))
     → (w : Written) (rest : List Written) (h : HeardDue c ms p w)
     → (let b : UpBundle = own_bundle ((facts_now c ms).processes.commits_heard p + 1) h.seen h.context h.changes in
     writes_waiting (events_of p ms) ≡ Own b ∷ rest
-    → ((q : ℕ) → q < length c.types → commits_heard q (said (heard_moment c p ms (Own b ∷ rest) ∷ ms)) ≡ hears (events_of q (heard_moment c p ms (Own b ∷ rest) ∷ ms)))
-    → heard (length c.types) p (own_bundles (Own b ∷ rest)) (state c ms) ≡ record { answer = (heard_moment c p ms (Own b ∷ rest)).answer; state = state c (heard_moment c p ms (Own b ∷ rest) ∷ ms) })
-hear_own c ms p lt fine w rest h waits counts =
+    → ((q : ℕ) → q < length c.types → commits_heard q (said (hear_by bounds c p ms (Own b ∷ rest) ∷ ms)) ≡ hears (events_of q (hear_by bounds c p ms (Own b ∷ rest) ∷ ms)))
+    → heard bounds (length c.types) p (own_bundles (Own b ∷ rest)) (state c ms) ≡ record { answer = (hear_by bounds c p ms (Own b ∷ rest)).answer; state = state c (hear_by bounds c p ms (Own b ∷ rest) ∷ ms) })
+hear_own bounds c ms p lt fine w rest h waits counts =
     let k : ℕ = (facts_now c ms).processes.commits_heard p + 1 in
     let b : UpBundle = own_bundle k h.seen h.context h.changes in
-    let both : ComesTo c ms p b = comes_to c ms p h.context h.changes (record { 0 = k }) h.seen h.free refl h.seen_sent in
-    heard_is c ms (length ms + 1) p b rest (looked_at c ms p b) (plainly c ms p b) (heard_moment c p ms (Own b ∷ rest)) refl lt waits both.quiet both.meets fine counts
+    let both : Meets (facts_with c ms) (looked_at c ms (allowed_of bounds b) p b) (plainly c ms (allowed_of bounds b) p b) =
+    comes_to c ms (allowed_of bounds b) p h.context h.changes (record { 0 = k }) h.seen h.allowed refl h.seen_sent in
+    heard_is c ms (length ms + 1) p b rest (looked_at c ms (allowed_of bounds b) p b) (plainly c ms (allowed_of bounds b) p b) (hear_by bounds c p ms (Own b ∷ rest)) refl lt waits both fine counts
 
-pub parent_hear : (c : Config) (ms : List Moment) (p : ℕ) → p < length c.types
+pub parent_hear : (bounds : Bounds) (c : Config) (ms : List Moment) (p : ℕ) → p < length c.types
     → ((q : ℕ) → q < length c.types → Behind (events_of q ms))
     → ((w : Written) (rest : List Written) → writes_waiting (events_of p ms) ≡ w ∷ rest → HeardDue c ms p w)
     → (ws : List Written) → writes_waiting (events_of p ms) ≡ ws
-    → ((q : ℕ) → q < length c.types → commits_heard q (said (heard_moment c p ms ws ∷ ms)) ≡ hears (events_of q (heard_moment c p ms ws ∷ ms)))
-    → heard (length c.types) p (own_bundles ws) (state c ms) ≡ record { answer = (heard_moment c p ms ws).answer; state = state c (heard_moment c p ms ws ∷ ms) }
-parent_hear c ms p lt fine due [] waits counts = refl
-parent_hear c ms p lt fine due (w ∷ rest) waits counts =
+    → ((q : ℕ) → q < length c.types → commits_heard q (said (hear_by bounds c p ms ws ∷ ms)) ≡ hears (events_of q (hear_by bounds c p ms ws ∷ ms)))
+    → heard bounds (length c.types) p (own_bundles ws) (state c ms) ≡ record { answer = (hear_by bounds c p ms ws).answer; state = state c (hear_by bounds c p ms ws ∷ ms) }
+parent_hear bounds c ms p lt fine due [] waits counts = refl
+parent_hear bounds c ms p lt fine due (w ∷ rest) waits counts =
     let h : HeardDue c ms p w = due w rest waits in
     let b : UpBundle = own_bundle ((facts_now c ms).processes.commits_heard p + 1) h.seen h.context h.changes in
-    subst (λ (v : Written). heard (length c.types) p (own_bundles (v ∷ rest)) (state c ms) ≡ record { answer = (heard_moment c p ms (v ∷ rest)).answer; state = state c (heard_moment c p ms (v ∷ rest) ∷ ms) }) (sym h.is)
-    (hear_own c ms p lt fine w rest h (waits ∙ ap (λ v. v ∷ rest) h.is)
-    (subst (λ (v : Written). (q : ℕ) → q < length c.types → commits_heard q (said (heard_moment c p ms (v ∷ rest) ∷ ms)) ≡ hears (events_of q (heard_moment c p ms (v ∷ rest) ∷ ms))) h.is counts))
+    subst (λ (v : Written). heard bounds (length c.types) p (own_bundles (v ∷ rest)) (state c ms)
+    ≡ record { answer = (hear_by bounds c p ms (v ∷ rest)).answer; state = state c (hear_by bounds c p ms (v ∷ rest) ∷ ms) }) (sym h.is)
+    (hear_own bounds c ms p lt fine w rest h (waits ∙ ap (λ v. v ∷ rest) h.is)
+    (subst (λ (v : Written). (q : ℕ) → q < length c.types → commits_heard q (said (hear_by bounds c p ms (v ∷ rest) ∷ ms)) ≡ hears (events_of q (hear_by bounds c p ms (v ∷ rest) ∷ ms))) h.is counts))

@@ -1,12 +1,12 @@
 -- Where the bundles of a ruling go.
-use Rattle.std.proofs.Common.{◌≡◌, ◌≢◌, ℕ, zero, suc, ◌+◌, ◌<◌, ◌≤◌, List, [], ◌∷◌, ◌++◌, length, map, set, get_or, Option, None, Some, refl, sym, ap, ap₂, ◌∙◌, arith}
+use Rattle.std.proofs.Common.{◌≡◌, ℕ, zero, suc, List, [], ◌∷◌, ◌++◌, length, map, set, get_or, Option, None, Some, refl, sym, ap, ◌∙◌}
 use Rattle.fission_ids.specs.declared.process.ProcId.{ProcId}
 use Rattle.wire_msgs.specs.declared.bundle.DownBundle.{DownBundle}
 use Rattle.protocol.specs.Questions.{Facts}
 use Rattle.protocol.specs.Bundle.{Ruling, bundle_for}
 use Rattle.protocol.specs.Start.{numbers}
 use Rattle.parent_core.specs.Ruled.{addressed, bundles_of}
-use Rattle.world.specs.Sides.{delivered, links_with, waiting_at}
+use Rattle.world.specs.Sides.{delivered, links_with}
 use Rattle.world.proofs.Lists.{at_front, set_front, append_one, longer}
 
 -- what waits with this bundle behind it, if there is one

@@ -10,3 +10,4 @@ pub mod AllCounts
 pub mod Shown
 pub mod PutBack
 pub mod Starting
+pub mod NeverFalls

@@ -1,5 +1,5 @@
 -- Looking back reads what was said and done as the rules do.
-use Rattle.std.proofs.Common.{◌≡◌, ℕ, List, [], ◌∷◌, ◌++◌, refl}
+use Rattle.std.proofs.Common.{◌≡◌, ℕ, List, ◌∷◌, ◌++◌, refl}
 use Rattle.wire_msgs.specs.declared.config.Config.{Config}
 use Rattle.protocol.specs.Questions.{Facts}
 use Rattle.protocol.specs.Sayings.{Saying}

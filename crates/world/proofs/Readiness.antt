@@ -1,31 +1,29 @@
 -- A world that stands for its journal is ready for a step.
-use Rattle.std.proofs.Common.{◌≡◌, ℕ, ◌+◌, ◌-◌, ◌^◌, ◌<◌, ◌≤◌, List, [], ◌∷◌, length, map, get_or, Option, None, Some, IsSome, refl, sym, ap, subst, ◌∙◌, arith}
+use Rattle.std.proofs.Common.{◌≡◌, ℕ, ◌+◌, ◌<◌, false, List, [], ◌∷◌, length, map, get_or, Option, None, Some, IsSome, refl, sym, ap, subst, ◌∙◌, arith}
 use Rattle.std.specs.Option.{option_map}
 use Rattle.std.proofs.lemmas.List.{length-map, get_or-map}
 use Rattle.wire_msgs.specs.declared.bundle.DownBundle.{DownBundle}
 use Rattle.wire_msgs.specs.declared.bundle.UpBundle.{UpBundle}
 use Rattle.wire_msgs.specs.declared.config.Config.{Config}
 use Rattle.wire_msgs.specs.declared.part.DownPart.{DownPart}
-use Rattle.journal.specs.declared.entry.Entry.{Entry}
+use Rattle.protocol.specs.Hear.{denied_of}
 use Rattle.protocol.specs.Questions.{Facts}
 use Rattle.protocol.specs.Start.{numbers}
-use Rattle.content_core.specs.Content.{Kept as ContentKept, seen_of}
+use Rattle.content_core.specs.Content.{Kept as ContentKept}
 use Rattle.content_core.specs.Moved.{IsCommit}
-use Rattle.content_core.specs.Moved as content
 use Rattle.parent_core.specs.Parent.{Kept as ParentKept, facts_of}
-use Rattle.parent_core.specs.Ruled.{IsHonest}
-use Rattle.parent_core.specs.Ruled as parent
 use Rattle.traces.specs.Event.{Bundle}
 use Rattle.traces.specs.Links.{bundles_waiting}
-use Rattle.model.specs.Journal.{Journal, steps_of}
+use Rattle.model.specs.Journal.{Journal}
 use Rattle.model.specs.Links.{up_waiting, down_waiting}
-use Rattle.model.specs.Moments.{Moment, events_of, facts_now, down_bundle}
-use Rattle.model.specs.Next.{Run, moments_of}
+use Rattle.model.specs.Moments.{Moment, said, events_of, facts_now, down_bundle, moments_of}
+use Rattle.model.specs.Next.{Run}
 use Rattle.model.proofs.Ties.{AreCommits}
+use Rattle.model.proofs.TiesStart.{same_denied}
 use Rattle.model.proofs.Honest.{AreOwnCommits, CountsTie, counts_tie, ups_wait, commits_wait}
 use Rattle.world.specs.Came.{State}
 use Rattle.world.specs.Sides.{Side, side_of, sides_of, waiting_at}
-use Rattle.world.specs.Stands.{side, state, state_of, Stands, most_entries}
+use Rattle.world.specs.Stands.{side, state_of, Stands, most_entries}
 use Rattle.world.specs.Ready.{IsReady}
 use Rattle.world.proofs.Lists.{length-numbers, get_or-map-numbers}
 use Rattle.world.proofs.Comes.{at_links}
@@ -80,7 +78,7 @@ module _ (before : ParentKept) (contents : List (Option ContentKept)) (ups : Lis
       ∙ ap (λ ss. get_or ss p None) sides_are ∙ get_or-map-numbers (λ q. Some (side before.config (moments_of before.config j) q)) (length before.config.types) p None lt
 
   few : (p : ℕ) → Few (length j) (events_of p (moments_of before.config j))
-  few p = subst (λ n. Few n (events_of p (moments_of before.config j))) (length-map j (λ (e : Entry). e.step)) (few_counts before.config (steps_of j) p)
+  few p = few_counts before.config j p
 
   pub ready : IsReady (length before.config.types) before contents ups downs
   ready = record {
@@ -103,7 +101,9 @@ module _ (before : ParentKept) (contents : List (Option ContentKept)) (ups : Lis
         let all : AreOwnCommits before.config.tabs (facts_of before) p ((facts_of before).processes.commits_heard p + 1) (b ∷ bs) =
         subst (λ bs2. AreOwnCommits before.config.tabs (facts_of before) p ((facts_of before).processes.commits_heard p + 1) bs2) up
         (subst (λ f. AreOwnCommits before.config.tabs f p (f.processes.commits_heard p + 1) (up_waiting p (moments_of before.config j))) (sym facts_are) (ups_wait run p stands.fits lt)) in
-        record { context = all.0.context; changes = all.0.changes; parts = all.0.parts; free = all.0.free; epoch = all.0.epoch; seen = all.0.seen };
+        let allowed : denied_of (λ fld. false) (facts_now before.config (moments_of before.config j)) p all.0.context all.0.changes ≡ [] =
+        same_denied (λ fld. false) before.config.tabs (said (moments_of before.config j)) p all.0.context all.0.changes ∙ all.0.allowed in
+        record { context = all.0.context; changes = all.0.changes; parts = all.0.parts; allowed = subst (λ (f : Facts). denied_of (λ fld. false) f p all.0.context all.0.changes ≡ []) (sym facts_are) allowed; epoch = all.0.epoch; seen = all.0.seen };
     commits = λ p b bs lt waits.
         first_commit before.config p (bundles_waiting (events_of p (moments_of before.config j))) (commits_wait run p stands.fits lt) b bs
         (sym (ap (waiting_at p) downs_are ∙ at_links (λ q. down_waiting q (moments_of before.config j)) (length before.config.types) p lt) ∙ waits);

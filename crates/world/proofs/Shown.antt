@@ -1,5 +1,5 @@
 -- What a world that stands for its journal has for one process, and what its sides show.
-use Rattle.std.proofs.Common.{◌≡◌, ℕ, ◌==◌, ◌<◌, ◌≤◌, Bool, true, false, not, List, [], ◌∷◌, length, map, get_or, slice_get, nat_lt, Option, None, Some, IfSome, is_some, Bor, refl, sym, ap, subst, ◌∙◌, arith}
+use Rattle.std.proofs.Common.{◌≡◌, ℕ, ◌==◌, ◌<◌, true, List, [], ◌∷◌, length, map, get_or, Option, None, Some, IfSome, is_some, Bor, refl, sym, ap, subst, ◌∙◌, arith}
 use Rattle.std.specs.Option.{option_map, option_copied}
 use Rattle.std.proofs.lemmas.Bool.Decides.{nat_tests}
 use Rattle.std.proofs.lemmas.List.{length-map, get_or-map}
@@ -8,18 +8,17 @@ use Rattle.field_table.specs.declared.field.Field.{Field}
 use Rattle.wire_msgs.specs.declared.bundle.DownBundle.{DownBundle}
 use Rattle.wire_msgs.specs.declared.bundle.UpBundle.{UpBundle}
 use Rattle.wire_msgs.specs.declared.config.Config.{Config}
-use Rattle.protocol.specs.Questions.{Facts}
 use Rattle.protocol.specs.Start.{numbers}
 use Rattle.content_core.specs.Content.{Kept as ContentKept, seen_of}
 use Rattle.parent_core.specs.Parent.{Kept as ParentKept, facts_of}
 use Rattle.model.specs.Journal.{Journal}
 use Rattle.model.specs.Links.{up_waiting, down_waiting, is_nothing}
-use Rattle.model.specs.Next.{Run, moments_of}
+use Rattle.model.specs.Moments.{facts_now, seen_now, moments_of}
 use Rattle.model.specs.View.{view, parent_view}
 use Rattle.model.proofs.ShownLaws.{process_shows}
 use Rattle.world.specs.Came.{State}
 use Rattle.world.specs.Sides.{Side, side_of, sides_of}
-use Rattle.world.specs.Stands.{side, state, state_of, Stands}
+use Rattle.world.specs.Stands.{side, state_of, Stands}
 use Rattle.world.proofs.Lists.{length-numbers, get_or-map-numbers}
 use Rattle.world.proofs.PutBack.{any_default}
 
@@ -50,6 +49,10 @@ module _ (c : Config) (j : Journal) (parent : ParentKept) (contents : List (Opti
   pub parent_shows : (x : ContextId) (f : Field) → (facts_of parent).contexts.value x f ≡ parent_view c x f j
   parent_shows x f = ap (λ (s : State). s.facts.contexts.value x f) stands.is
 
+  -- the parent answers what is told by looking back
+  pub parent_answers : facts_of parent ≡ facts_now c (moments_of c j)
+  parent_answers = ap (λ (s : State). s.facts) stands.is
+
   pub side_at : (p : ℕ) → p < length c.types → get_or (sides_of contents) p None ≡ Some (side c (moments_of c j) p)
   side_at p lt = ap (λ (s : State). get_or s.sides p None) stands.is ∙ get_or-map-numbers (λ q. Some (side c (moments_of c j) q)) (length c.types) p None lt
 
@@ -68,16 +71,26 @@ module _ (c : Config) (j : Journal) (parent : ParentKept) (contents : List (Opti
       ∙ sym (get_or-map (option_map side_of) contents p None None within)
       ∙ side_at c j parent contents ups downs stands p lt
 
+  some_side : (k : ContentKept) (o : Option ContentKept) (p : ℕ) → option_map side_of o ≡ Some (side c (moments_of c j) p) → Some k ≡ o → side_of k ≡ side c (moments_of c j) p
+  some_side k o p e1 e2 = cc
+
   -- what stands there shows the view of the process
   pub shows_at : (p : ℕ) (o : Option ContentKept) (r : Option (Bor ContentKept)) → p < length c.types → option_map side_of o ≡ Some (side c (moments_of c j) p) → option_copied r ≡ o
       → IfSome r (λ k. (x : ContextId) (f : Field) → (seen_of k.now).value x f ≡ view c p x f j)
   shows_at p o None lt held is = tt
   shows_at p o (Some k) lt held is = λ x f.
-      let same : side_of k.now ≡ side c (moments_of c j) p = some_same k.now o held is in
+      let same : side_of k.now ≡ side c (moments_of c j) p = some_side k.now o p held is in
       ap (λ (s : Side). s.seen.value x f) same ∙ process_shows (record { config = c; journal = j }) p x f stands.fits lt
-    where
-      some_same : (k : ContentKept) (o : Option ContentKept) → option_map side_of o ≡ Some (side c (moments_of c j) p) → Some k ≡ o → side_of k ≡ side c (moments_of c j) p
-      some_same k o e1 e2 = cc
+
+  -- it is that process
+  pub number_at : (p : ℕ) (o : Option ContentKept) (r : Option (Bor ContentKept)) → option_map side_of o ≡ Some (side c (moments_of c j) p) → option_copied r ≡ o → IfSome r (λ k. k.now.process ≡ p)
+  number_at p o None held is = tt
+  number_at p o (Some k) held is = ap (λ (s : Side). s.process) (some_side k.now o p held is)
+
+  -- and answers what is told by looking back
+  pub answers_at : (p : ℕ) (o : Option ContentKept) (r : Option (Bor ContentKept)) → option_map side_of o ≡ Some (side c (moments_of c j) p) → option_copied r ≡ o → IfSome r (λ k. seen_of k.now ≡ seen_now c p (moments_of c j))
+  answers_at p o None held is = tt
+  answers_at p o (Some k) held is = ap (λ (s : Side). s.seen) (some_side k.now o p held is)
 
 pub is_there : (o : Option ContentKept) (s : Side) → option_map side_of o ≡ Some s → is_some o ≡ true
 is_there None s e = cc

@@ -1,5 +1,5 @@
 -- What there is before any step.
-use Rattle.std.proofs.Common.{◌≡◌, ℕ, zero, suc, ◌+◌, ◌≤◌, List, [], ◌∷◌, ◌++◌, length, map, Option, None, Some, refl, sym, ap, ◌∙◌, subst, arith}
+use Rattle.std.proofs.Common.{◌≡◌, ℕ, ◌+◌, List, [], ◌∷◌, ◌++◌, length, map, Option, Some, refl, sym, ap, ◌∙◌, subst, arith}
 use Rattle.std.specs.Option.{option_map}
 use Rattle.std.proofs.lemmas.List.{map-append}
 use Rattle.wire_msgs.specs.Config.{ConfigFits}
@@ -8,16 +8,14 @@ use Rattle.wire_msgs.specs.declared.bundle.UpBundle.{UpBundle}
 use Rattle.wire_msgs.specs.declared.config.Config.{Config}
 use Rattle.wire_msgs.specs.declared.config.StartTab.{StartTab}
 use Rattle.protocol.specs.Questions.{Facts}
-use Rattle.protocol.specs.Seen.{Seen}
 use Rattle.protocol.specs.Start.{numbers, facts_at_start, seen_at_start}
 use Rattle.content_core.specs.Content.{Kept, seen_of}
 use Rattle.parent_core.specs.Parent.{Kept as ParentKept, facts_of}
 use Rattle.model.specs.Parent as parent
 use Rattle.model.specs.Process as process
-use Rattle.model.specs.Moments.{moments}
+use Rattle.model.specs.Moments.{moments_of}
 use Rattle.model.specs.Next.{Lawful}
 use Rattle.world.specs.Sides.{Side, side_of, sides_of}
-use Rattle.world.specs.Came.{State}
 use Rattle.world.specs.Stands.{state, state_of, Stands}
 use Rattle.world.proofs.Lists.{map-numbers_more}
 
@@ -48,7 +46,7 @@ pub stands_at_start : (c d : Config) (before : ParentKept) (contents : List (Opt
     → facts_of before ≡ facts_at_start c.tabs → sides_of contents ≡ map (side_at_start c.tabs) (numbers 0 (length c.types))
     → ups ≡ map (λ p. []) (numbers 0 (length c.types)) → downs ≡ map (λ p. []) (numbers 0 (length c.types))
     → Stands d [] (state_of before contents ups downs)
-unfolding Lawful moments
+unfolding Lawful moments_of
 stands_at_start c d before contents ups downs fits same facts sides up down =
     subst (λ (e : Config). Stands e [] (state_of before contents ups downs)) (sym same) (record {
       fits = record { config = fits; steps = tt };

@@ -1,17 +1,15 @@
 -- What an event does to what waits on the links of a process.
-use Rattle.std.proofs.Common.{◌≡◌, ℕ, zero, suc, ◌+◌, ◌<◌, ◌≤◌, List, [], ◌∷◌, ◌++◌, length, map, drop, Option, None, Some, refl, sym, ap, ap₂, ◌∙◌, arith}
+use Rattle.std.proofs.Common.{◌≡◌, ℕ, ◌≤◌, List, [], ◌∷◌, ◌++◌, length, map, Option, None, Some, refl, ap, ◌∙◌}
 use Rattle.std.proofs.lemmas.List.{map-append}
 use Rattle.wire_msgs.specs.declared.bundle.DownBundle.{DownBundle}
 use Rattle.wire_msgs.specs.declared.bundle.UpBundle.{UpBundle}
 use Rattle.wire_msgs.specs.declared.part.DownPart.{DownPart}
 use Rattle.protocol.specs.Sayings.{Saying}
-use Rattle.traces.specs.Event.{Bundle, Event}
-use Rattle.traces.specs.Event.Event.{Writes, Sends, Takes, Accepts, Ignores, Changes}
+use Rattle.traces.specs.Event.{Bundle}
 use Rattle.traces.specs.Links.{writes, writes_waiting, hears, bundles_sent, bundles_waiting, takes}
 use Rattle.model.specs.Moments.{Written, ProcessEvent, written, told, down_bundle}
 use Rattle.model.specs.Moments.Written.{Own, Said}
 use Rattle.model.specs.Links.{own_bundles}
-use Rattle.world.specs.Sides.{ups_after}
 use Rattle.world.proofs.Lists.{cut_with}
 
 -- what waits on the links of these events

@@ -1,5 +1,6 @@
 -- What a step comes to, and what there is behind it.
-use Rattle.std.specs.Prelude.{ℕ, ◌∷◌, List, [], length, false, Option, slice_set}
+use Rattle.std.specs.Prelude.{ℕ, ◌∷◌, List, [], Option, slice_set}
+use Rattle.field_rules.specs.Bounds.{Bounds}
 use Rattle.wire_msgs.specs.declared.action.Action.{Action}
 use Rattle.wire_msgs.specs.declared.action.ParentAction.{ParentAction}
 use Rattle.wire_msgs.specs.declared.answer.Answer.{Answer}
@@ -12,6 +13,7 @@ use Rattle.journal.specs.declared.entry.Step.TheVariants.{Act, Take, ParentAct, 
 use Rattle.protocol.specs.Questions.{Facts}
 use Rattle.protocol.specs.FactsAfter.{facts_after}
 use Rattle.protocol.specs.Bundle.{Ruling, bundle_ruling}
+use Rattle.protocol.specs.Outside.{allowed_of}
 use Rattle.protocol.specs.ParentActs.{action_ruling}
 use Rattle.protocol.specs.Start.{numbers}
 use Rattle.parent_core.specs.Ruled.{bundles_of}
@@ -64,16 +66,16 @@ ruled n rule s = record {
 abbrev pub parent_acted : ℕ → ParentAction → State → Came
 parent_acted n action s = ruled n (action_ruling (λ f. f) facts_after n action s.facts) s
 
--- the parent hears the bundle of process p that waited first of these
-abbrev pub heard : ℕ → ℕ → List UpBundle → State → Came
-heard n p [] s = record { answer = Refused Empty; state = s }
-heard n p (b ∷ bs) s =
-    ruled n (bundle_ruling (λ f. f) facts_after n (λ fld. false) p b s.facts)
+-- the parent hears the bundle of process p that waited first of these, by the bounds of the rule functions
+abbrev pub heard : Bounds → ℕ → ℕ → List UpBundle → State → Came
+heard bounds n p [] s = record { answer = Refused Empty; state = s }
+heard bounds n p (b ∷ bs) s =
+    ruled n (bundle_ruling (λ f. f) facts_after n (allowed_of bounds b) p b s.facts)
     (record s { ups = slice_set s.ups p bs })
 
 -- what a step comes to, where there are n processes
-abbrev pub came : ℕ → Step → State → Came
-came n (Act p action) s = acted p.0 action s
-came n (Take p) s = taken p.0 (waiting_at p.0 s.downs) s
-came n (ParentAct action) s = parent_acted n action s
-came n (Hear p) s = heard n p.0 (waiting_at p.0 s.ups) s
+abbrev pub came : Bounds → ℕ → Step → State → Came
+came bounds n (Act p action) s = acted p.0 action s
+came bounds n (Take p) s = taken p.0 (waiting_at p.0 s.downs) s
+came bounds n (ParentAct action) s = parent_acted n action s
+came bounds n (Hear p) s = heard bounds n p.0 (waiting_at p.0 s.ups) s

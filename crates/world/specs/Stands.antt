@@ -9,8 +9,8 @@ use Rattle.parent_core.specs.Parent.{Kept as ParentKept, facts_of}
 use Rattle.model.specs.Journal.{Journal}
 use Rattle.model.specs.Laws.{RunFits}
 use Rattle.model.specs.Links.{up_waiting, down_waiting}
-use Rattle.model.specs.Moments.{Moment, facts_now, seen_now}
-use Rattle.model.specs.Next.{Run, Lawful, moments_of}
+use Rattle.model.specs.Moments.{Moment, facts_now, seen_now, moments_of}
+use Rattle.model.specs.Next.{Lawful}
 use Rattle.world.specs.Sides.{Side, sides_of}
 use Rattle.world.specs.Came.{State}
 use Rattle.world.specs.declared.sides.Sides.{Sides}

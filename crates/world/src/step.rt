@@ -1,4 +1,5 @@
 ghost use Rattle.std.specs.Prelude.{◌≡◌, ◌<◌, length, IfOk, OnOk};
+ghost use Rattle.field_rules.specs.RuleBounds.{bounds_of};
 ghost use Rattle.journal.specs.Step.{StepFits};
 ghost use Rattle.content_core.specs.Content.{IsPlayed};
 ghost use Rattle.parent_core.specs.Parent.{IsPlayed as IsPlayedByParent};
@@ -9,6 +10,7 @@ ghost use Rattle.world.specs.Stands.{whole};
 
 use crate::deliver::deliver;
 use crate::sides::{Sides, Told, act_at, send_up, take_at};
+use field_rules::Rules;
 use fission_ids::{Duplicate, OutOfMemory, ProcId};
 use journal::Step;
 use parent_core::{Parent, Ruled};
@@ -22,20 +24,25 @@ pub(crate) struct Came {
 }
 
 /// Makes a step: one call of one side.
-pub(crate) fn come(parent: Parent, sides: &mut Sides, step: &Step) -> Result<Came, OutOfMemory>
+pub(crate) fn come(
+    parent: Parent,
+    rules: &Rules,
+    sides: &mut Sides,
+    step: &Step,
+) -> Result<Came, OutOfMemory>
     requires ready { AreReady parent sides.old }
     requires step { StepFits (length parent.config.types) step.now }
     ensures config { IfOk result (λ k. k.parent.config ≡ parent.config) }
     ensures answer { IfOk result (λ k. k.answer ≡
-        (came (length parent.config.types) step.now (whole parent sides.old)).answer) }
+        (came (bounds_of rules.now) (length parent.config.types) step.now (whole parent sides.old)).answer) }
     ensures state { IfOk result (λ k. whole k.parent sides.new ≡
-        (came (length parent.config.types) step.now (whole parent sides.old)).state) }
+        (came (bounds_of rules.now) (length parent.config.types) step.now (whole parent sides.old)).state) }
 {
     match step {
         Step::Act { p, action } => act(parent, sides, *p, action.copy()?),
         Step::Take { p } => take(parent, sides, *p),
         Step::ParentAct { action } => act_in_parent(parent, sides, action.copy()?),
-        Step::Hear { p } => hear(parent, sides, *p),
+        Step::Hear { p } => hear(parent, rules, sides, *p),
     }
 }
 
@@ -100,14 +107,16 @@ fn act_in_parent(
 }
 
 // The parent hears the bundle of process p that waited first.
-fn hear(parent: Parent, sides: &mut Sides, p: ProcId) -> Result<Came, OutOfMemory>
+fn hear(parent: Parent, rules: &Rules, sides: &mut Sides, p: ProcId) -> Result<Came, OutOfMemory>
     requires ready { AreReady parent sides.old }
     requires process { p.0 < length parent.config.types }
     ensures config { IfOk result (λ k. k.parent.config ≡ parent.config) }
     ensures answer { IfOk result (λ k. k.answer ≡
-        (heard (length parent.config.types) p.0 (waiting_at p.0 sides.old.ups.items) (whole parent sides.old)).answer) }
+        (heard (bounds_of rules.now) (length parent.config.types) p.0 (waiting_at p.0 sides.old.ups.items)
+        (whole parent sides.old)).answer) }
     ensures state { IfOk result (λ k. whole k.parent sides.new ≡
-        (heard (length parent.config.types) p.0 (waiting_at p.0 sides.old.ups.items) (whole parent sides.old)).state) }
+        (heard (bounds_of rules.now) (length parent.config.types) p.0 (waiting_at p.0 sides.old.ups.items)
+        (whole parent sides.old)).state) }
 {
     let Some(bundle) = sides.ups[p.0 as usize].take() else {
         return Ok(Came {
@@ -116,7 +125,7 @@ fn hear(parent: Parent, sides: &mut Sides, p: ProcId) -> Result<Came, OutOfMemor
         });
     };
     parent.counts_each_process();
-    let Ruled { core, answer, sent } = parent.hear(p, bundle)?;
+    let Ruled { core, answer, sent } = parent.hear(rules, p, bundle)?;
     deliver(sent, sides.downs.as_mut_slice())?;
     Ok(Came {
         parent: core,

@@ -1,24 +1,28 @@
-ghost use Rattle.std.specs.Prelude.{◌≡◌, ℕ, ◌<◌, ◌≤◌, ◌∷◌, ◌&&◌, not, length, true, nat_lt, is_some};
-ghost use Rattle.std.specs.Prelude.{IfOk, IfSome, OnOk};
+ghost use Rattle.std.specs.Prelude.{◌≡◌, ℕ, ◌<◌, ◌≤◌, ◌∷◌, ◌&&◌, not, length, true, false, nat_lt, is_some};
+ghost use Rattle.std.specs.Prelude.{IfOk, IfSome, OnOk, Some};
 ghost use Rattle.fission_ids.specs.declared.context.ContextId.{ContextId};
 ghost use Rattle.field_table.specs.declared.field.Field.{Field};
+ghost use Rattle.field_rules.specs.RuleBounds.{bounds_of};
 ghost use Rattle.wire_msgs.specs.Config.{ConfigFits};
 ghost use Rattle.journal.specs.Step.{StepFits};
+ghost use Rattle.journal.specs.declared.entry.Step.TheVariants.{Take};
 ghost use Rattle.protocol.specs.Start.{is_held_at_start};
 ghost use Rattle.content_core.specs.Content.{seen_of};
 ghost use Rattle.parent_core.specs.Parent.{facts_of};
 ghost use Rattle.model.specs.Laws.{RunFits};
 ghost use Rattle.model.specs.Links.{is_quiet, is_nothing, up_waiting, down_waiting};
-ghost use Rattle.model.specs.Moments.{seen_now};
+ghost use Rattle.model.specs.Moments.{facts_now, seen_now};
 ghost use Rattle.model.specs.Settling.{moments_in};
 ghost use Rattle.model.specs.Next.{run_at_start, run_after};
-ghost use Rattle.model.specs.View.{view, parent_view, base, point};
+ghost use Rattle.model.specs.View.{view, parent_view, base, point, value_at, newest, is_answered};
+ghost use Rattle.model.specs.View.{IsOnItsWay, reverted_in, sent_first};
 ghost use Rattle.world.specs.Stands.{most_entries};
 
 use crate::sides::Sides;
 use crate::start::start_sides;
 use crate::step::{Came, come};
 use content_core::Content;
+use field_rules::Rules;
 use fission_ids::{OutOfMemory, ProcId};
 use journal::{Entry, Journal, Step};
 use parent_core::Parent;
@@ -58,23 +62,30 @@ impl World {
         })
     }
 
-    /// The world after one step more. What the step came to is in the newest entry of the journal. An error
-    /// says that memory is wanting, and then nothing of the world is left.
-    pub fn step(self, step: Step) -> Result<World, OutOfMemory>
+    /// The world after one step more, as the rules judge what is heard. What the step came to is in the
+    /// newest entry of the journal. An error says that memory is wanting, and then nothing of the world is left.
+    pub fn step(self, rules: &Rules, step: Step) -> Result<World, OutOfMemory>
         requires step { StepFits (length self.config.types) step }
         requires room { length self.journal < most_entries }
-        ensures run { IfOk result (λ w. w ≡ run_after self step) }
+        ensures run { IfOk result (λ w. w ≡ run_after (bounds_of rules.now) self step) }
         ensures base { IfOk result (λ w. (p : ℕ) (x : ContextId) (f : Field) → p < length self.config.types →
             base self.config p x f self.journal ≤ base w.config p x f w.journal) }
         ensures point { IfOk result (λ w. (p : ℕ) (x : ContextId) (f : Field) → p < length self.config.types →
             point self.config p x f self.journal ≤ point w.config p x f w.journal) }
+        // A process that takes the bundle which reverts its newest write to a field shows the parent's value at
+        // the entry that sent it.
+        ensures reverted { IfOk result (λ w. (p : ProcId) (x : ContextId) (f : Field) (k : ℕ) →
+            step ≡ Take p → is_held_at_start self.config.tabs p.0 x ≡ true →
+            sent_first self.config p.0 self.journal ≡ Some k →
+            reverted_in (newest self.config p.0 x f self.journal) self.config p.0 x f self.journal ≡ Some k →
+            view w.config p.0 x f w.journal ≡ Some (value_at self.config p.0 x f k self.journal)) }
     {
         let World {
             parent,
             mut sides,
             mut journal,
         } = self;
-        let Came { parent, answer } = come(parent, &mut sides, &step)?;
+        let Came { parent, answer } = come(parent, rules, &mut sides, &step)?;
         keep(&mut journal, step, answer)?;
         Ok(World {
             parent,
@@ -105,21 +116,33 @@ impl World {
         &self.journal
     }
 
-    /// The parent. It shows of each context what the model has as its view.
+    /// The parent. It answers what the model tells by looking back, and it shows of each context what the
+    /// model has as its view.
     pub fn parent(&self) -> &Parent
         ensures config { result.now.config ≡ self.now.config }
+        ensures answers { facts_of result.now ≡ facts_now self.now.config (moments_in self.now) }
         ensures shows { (x : ContextId) (f : Field) →
             (facts_of result.now).contexts.value x f ≡ parent_view self.now.config x f self.now.journal }
     {
         &self.parent
     }
 
-    /// Process p, or None exactly where there is no such process. It shows of each field the optimistic view:
-    /// its newest own write not yet answered, else the parent's value at its point.
+    /// Process p, or None exactly where there is no such process. It answers what the model tells by looking
+    /// back, and it shows of each field the optimistic view: its newest own write not yet answered, else the
+    /// parent's value at its point.
     pub fn content(&self, p: ProcId) -> Option<&Content>
         ensures there { is_some result ≡ nat_lt p.0 (length self.now.config.types) }
+        ensures process { IfSome result (λ c. c.now.process ≡ p.0) }
+        ensures answers { IfSome result (λ c.
+            seen_of c.now ≡ seen_now self.now.config p.0 (moments_in self.now)) }
         ensures shows { IfSome result (λ c. (x : ContextId) (f : Field) →
             (seen_of c.now).value x f ≡ view self.now.config p.0 x f self.now.journal) }
+        // A reverted write that isn't answered has its revert on its way.
+        ensures reverts { IfSome result (λ c. (x : ContextId) (f : Field) (n k : ℕ) →
+            reverted_in n self.now.config p.0 x f self.now.journal ≡ Some k →
+            is_answered n self.now.config p.0 x f self.now.journal ≡ false →
+            IsOnItsWay k (value_at self.now.config p.0 x f k self.now.journal)
+            self.now.config p.0 x f self.now.journal) }
     {
         self.sides.contents.get(p.0 as usize)?.as_ref()
     }

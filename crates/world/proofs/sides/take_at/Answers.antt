@@ -1,4 +1,4 @@
-use Rattle.std.proofs.Common.{◌≡◌, Some, sym, ◌∙◌}
+use Rattle.std.proofs.Common.{◌≡◌, Some}
 use Rattle.world.proofs.PutBack.{put_back_taken}
 use Rattle.world.proofs.sides.take_at.Goals as goal
 

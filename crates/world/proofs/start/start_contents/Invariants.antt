@@ -1,5 +1,5 @@
-use Rattle.std.proofs.Common.{◌≡◌, map, Some}
-use Rattle.protocol.specs.Start.{numbers, seen_at_start}
+use Rattle.std.proofs.Common.{◌≡◌, map}
+use Rattle.protocol.specs.Start.{numbers}
 use Rattle.world.specs.Sides.{sides_of}
 use Rattle.world.proofs.Starting.{side_at_start}
 use Rattle.world.proofs.start.start_contents.Given as goal

@@ -1,5 +1,4 @@
-use Rattle.std.proofs.Common.{◌≡◌, ◌<◌, [], ◌∷◌, length, sym, subst, ◌∙◌}
-use Rattle.wire_msgs.specs.declared.bundle.DownBundle.{DownBundle}
+use Rattle.std.proofs.Common.{◌<◌, [], length, sym, subst, ◌∙◌}
 use Rattle.world.proofs.PutBack.{any_default}
 use Rattle.world.proofs.step.take.Goals as goal
 

@@ -1,15 +1,19 @@
-use Rattle.std.proofs.Common.{◌≡◌, ℕ, ◌<◌, true, nat_lt, length, Option, Some, is_some, ap, sym, subst, ◌∙◌}
+use Rattle.std.proofs.Common.{◌≡◌, ◌<◌, nat_lt, length, Option, None, Some, is_some, ap, sym, subst, ◌∙◌}
 use Rattle.std.specs.Prelude.{IfSome, slice_index_or}
 use Rattle.fission_ids.specs.declared.context.ContextId.{ContextId}
 use Rattle.field_table.specs.declared.field.Field.{Field}
 use Rattle.std.specs.Option.{option_map}
 use Rattle.std.proofs.lemmas.Bool.{ltb-true}
-use Rattle.content_core.specs.Content.{Kept, seen_of}
-use Rattle.model.specs.Next.{Run, moments_of}
+use Rattle.content_core.specs.Content.{seen_of}
+use Rattle.model.specs.Moments.{seen_now, moments_of}
+use Rattle.model.specs.Next.{Run}
+use Rattle.model.specs.Settling.{moments_in}
+use Rattle.model.specs.Laws.{RunFits}
 use Rattle.model.specs.View.{view}
+use Rattle.model.proofs.Reverted.{reverts_stand}
 use Rattle.world.specs.Sides.{side_of}
 use Rattle.world.specs.Stands.{side}
-use Rattle.world.proofs.Shown.{contents_count, held_at, shows_at, is_there}
+use Rattle.world.proofs.Shown.{contents_count, held_at, shows_at, number_at, answers_at, is_there}
 use Rattle.world.proofs.world.World.content.Goals as goal
 
 pub returns-in_err-get-clause-there : goal.returns-in_err-get-clause-there
@@ -36,3 +40,25 @@ returns-clause-shows c =
     subst (λ (r : Run). IfSome c.as_ref.result (λ k. (x : ContextId) (f : Field) → (seen_of k.now).value x f ≡ view r.config c.args.p.0 x f r.journal)) c.self.view_is
     (shows_at c.self.inside.parent.config c.self.inside.journal c.self.inside.parent c.self.inside.sides.contents.items c.self.inside.sides.ups.items c.self.inside.sides.downs.items c.self.invariant
     c.args.p.0 c.in_ok-get.field-0.now c.as_ref.result (within c) (held c) c.as_ref.ensures.value)
+
+pub returns-clause-process : goal.returns-clause-process
+returns-clause-process c =
+    number_at c.self.inside.parent.config c.self.inside.journal c.self.inside.parent c.self.inside.sides.contents.items c.self.inside.sides.ups.items c.self.inside.sides.downs.items c.self.invariant
+    c.args.p.0 c.in_ok-get.field-0.now c.as_ref.result (held c) c.as_ref.ensures.value
+
+pub returns-clause-answers : goal.returns-clause-answers
+returns-clause-answers c =
+    subst (λ (r : Run). IfSome c.as_ref.result (λ k. seen_of k.now ≡ seen_now r.config c.args.p.0 (moments_in r))) c.self.view_is
+    (answers_at c.self.inside.parent.config c.self.inside.journal c.self.inside.parent c.self.inside.sides.contents.items c.self.inside.sides.ups.items c.self.inside.sides.downs.items c.self.invariant
+    c.args.p.0 c.in_ok-get.field-0.now c.as_ref.result (held c) c.as_ref.ensures.value)
+
+-- what holds at all holds of what there is
+if_some : {X : Type 0} {P : Type 0} (o : Option X) → P → IfSome o (λ x. P)
+if_some None holds = tt
+if_some (Some x) holds = holds
+
+pub returns-clause-reverts : goal.returns-clause-reverts
+returns-clause-reverts c =
+    if_some c.as_ref.result
+    (λ x f n k. reverts_stand c.args.self.now c.args.p.0 x f n k (subst RunFits c.self.view_is c.self.invariant.fits)
+    (subst (λ (r : Run). c.args.p.0 < length r.config.types) c.self.view_is (within c)))

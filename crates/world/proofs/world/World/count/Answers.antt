@@ -1,5 +1,3 @@
-use Rattle.std.proofs.Common.{◌≡◌, ◌≤◌, length, ap, subst, sym, ◌∙◌}
-use Rattle.wire_msgs.specs.declared.config.Config.{Config}
 use Rattle.world.proofs.world.World.count.Goals as goal
 
 pub returns-clause-few : goal.returns-clause-few

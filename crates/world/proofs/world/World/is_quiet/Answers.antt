@@ -1,4 +1,4 @@
-use Rattle.std.proofs.Common.{◌≡◌, Bool, true, false, not, ◌&&◌, refl, ap, ap₂, sym, ◌∙◌}
+use Rattle.std.proofs.Common.{◌≡◌, Bool, true, false, not, ◌&&◌, refl, ap₂}
 use Rattle.model.proofs.ShownLaws.{quiet_shows}
 use Rattle.model.specs.Links.{is_quiet, is_nothing, up_waiting, down_waiting}
 use Rattle.model.specs.Settling.{moments_in}

@@ -1,6 +1,3 @@
-use Rattle.std.proofs.Common.{◌≡◌, [], sym, subst}
-use Rattle.model.specs.Journal.{Journal}
-use Rattle.world.specs.Stands.{Stands, state_of}
 use Rattle.world.proofs.Starting.{stands_at_start}
 use Rattle.world.proofs.world.World.start.Goals as goal
 

@@ -1,7 +1,8 @@
-use Rattle.std.proofs.Common.{◌≡◌, ℕ, ◌<◌, Bool, [], not, List, length, get_or, arith, ap, sym, subst, ◌∙◌}
+use Rattle.std.proofs.Common.{◌≡◌, ◌<◌, [], not, List, length, arith, ap, sym, subst, ◌∙◌}
 use Rattle.wire_msgs.specs.declared.bundle.UpBundle.{UpBundle}
 use Rattle.model.specs.Links.{up_waiting, is_nothing}
-use Rattle.model.specs.Next.{Run, moments_of}
+use Rattle.model.specs.Moments.{moments_of}
+use Rattle.model.specs.Next.{Run}
 use Rattle.model.specs.Settling.{moments_in}
 use Rattle.world.proofs.PutBack.{any_default}
 use Rattle.world.proofs.Shown.{ups_count, up_at, nothing_is}

@@ -4,6 +4,7 @@ use Rattle.std.specs.Prelude.{Option, None, Some, Result, Ok, Err, ⊤, codes, i
 use Rattle.std.specs.List.{list_any}
 use Rattle.std.specs.Str.{bytes_eq}
 use Rattle.std.specs.Io.KnownBytes.{Appends, Consumes, IsAtEnd, Keeps}
+use Rattle.field_rules.specs.Bounds.{Bounds}
 use Rattle.edge.specs.Causes.{Rose}
 use Rattle.edge.specs.Input.{ReadSome}
 use Rattle.edge.specs.Pieces.{Begins}
@@ -39,17 +40,17 @@ pub record ReadAs (left left' : Option (List ℕ)) (found : Result Scenario faul
 abbrev pub ReadPastLimit : (left left' : Option (List ℕ)) → Type 0
 ReadPastLimit left left' = ReadSome left left' (λ count. count ≡ limit + 1)
 
--- ---- what was written of it
+-- ---- what was written of it, by the bounds of the rule functions
 
 -- the source held a scenario, and its report was written
-abbrev pub Reports : (left left' written written' : Option (List ℕ)) → Type 0
-Reports left left' written written' =
-    (s : Scenario) × ReadAs left left' (Ok s) × Appends written written' (text s)
+abbrev pub Reports : Bounds → (left left' written written' : Option (List ℕ)) → Type 0
+Reports b left left' written written' =
+    (s : Scenario) × ReadAs left left' (Ok s) × Appends written written' (text b s)
 
 -- the source held a scenario, and a front of its report was written
-abbrev pub BeginsReport : (left left' written written' : Option (List ℕ)) → Type 0
-BeginsReport left left' written written' =
-    (s : Scenario) × ReadAs left left' (Ok s) × Begins written written' (text s)
+abbrev pub BeginsReport : Bounds → (left left' written written' : Option (List ℕ)) → Type 0
+BeginsReport b left left' written written' =
+    (s : Scenario) × ReadAs left left' (Ok s) × Begins written written' (text b s)
 
 -- the source held JSON that is no scenario, and the line with the place of the first fault was written
 abbrev pub TellsPlace : (left left' written written' : Option (List ℕ)) → Type 0
@@ -62,28 +63,28 @@ BeginsPlace left left' written written' =
     (place : ℕ) × ReadAs left left' (Err (faults.Shape place)) × Begins written written' (place_text place)
 
 -- a front of what is to be written for the bytes was written
-abbrev pub BeginsAnswer : (left left' written written' : Option (List ℕ)) → Type 0
-BeginsAnswer left left' written written' =
-    BeginsReport left left' written written' ⊎ BeginsPlace left left' written written'
+abbrev pub BeginsAnswer : Bounds → (left left' written written' : Option (List ℕ)) → Type 0
+BeginsAnswer b left left' written written' =
+    BeginsReport b left left' written written' ⊎ BeginsPlace left left' written written'
 
 -- what a run came to and why: what the source had left and the sink was given, and their counts of faults
-abbrev pub Explains : Result ⊤ Failure
+abbrev pub Explains : Bounds → Result ⊤ Failure
     → (left left' written written' : Option (List ℕ)) → (reads reads' writes writes' : ℕ) → Type 0
-Explains (Ok done) left left' written written' reads reads' writes writes' =
-    Reports left left' written written'
-Explains (Err failures.Memory) left left' written written' reads reads' writes writes' =
-    Keeps written written' ⊎ BeginsReport left left' written written'
-Explains (Err failures.Words) left left' written written' reads reads' writes writes' = ⊥
-Explains (Err failures.Unread) left left' written written' reads reads' writes writes' =
+Explains b (Ok done) left left' written written' reads reads' writes writes' =
+    Reports b left left' written written'
+Explains b (Err failures.Memory) left left' written written' reads reads' writes writes' =
+    Keeps written written' ⊎ BeginsReport b left left' written written'
+Explains b (Err failures.Words) left left' written written' reads reads' writes writes' = ⊥
+Explains b (Err failures.Unread) left left' written written' reads reads' writes writes' =
     ReadAs left left' (Err faults.Unread) × Keeps written written'
-Explains (Err (failures.Shape place)) left left' written written' reads reads' writes writes' =
+Explains b (Err (failures.Shape place)) left left' written written' reads reads' writes writes' =
     ReadAs left left' (Err (faults.Shape place)) × Appends written written' (place_text place)
-Explains (Err failures.TooLarge) left left' written written' reads reads' writes writes' =
+Explains b (Err failures.TooLarge) left left' written written' reads reads' writes writes' =
     ReadPastLimit left left' × Keeps written written'
-Explains (Err failures.ReadFault) left left' written written' reads reads' writes writes' =
+Explains b (Err failures.ReadFault) left left' written written' reads reads' writes writes' =
     Rose reads reads' × Keeps written written'
-Explains (Err failures.WriteFault) left left' written written' reads reads' writes writes' =
-    Rose writes writes' × BeginsAnswer left left' written written'
+Explains b (Err failures.WriteFault) left left' written written' reads reads' writes writes' =
+    Rose writes writes' × BeginsAnswer b left left' written written'
 
 -- ---- which statuses may come
 

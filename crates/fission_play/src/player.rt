@@ -2,6 +2,7 @@
 
 ghost use Rattle.std.specs.Prelude.{◌≡◌, ◌+◌, ◌≤◌, ◌⊎◌, ◌↔◌, Err, false, map, string_bytes, true, IsErrOf};
 ghost use Rattle.std.specs.Io.KnownBytes.{Keeps};
+ghost use Rattle.field_rules.specs.RuleBounds.{bounds_of};
 ghost use Rattle.edge.specs.Causes.{Rose};
 ghost use Rattle.edge.specs.Input.{ReadAtMost};
 ghost use Rattle.edge.specs.Pieces.{Writes};
@@ -14,6 +15,7 @@ ghost use Rattle.fission_play.specs.Status.{code_of};
 use crate::failure::Failure;
 use crate::status::code_of;
 use edge::{Input, Sink, Source, read_all, write_all};
+use field_rules::Rules;
 use report::{ReportFault, place_line, write_report};
 use scenario::{ReadFault, read};
 use std::alloc::Global;
@@ -44,8 +46,13 @@ fn write_place<K: Sink>(alloc: Global, place: u32, sink: &mut K) -> Result<(), R
 }
 
 #[tactic(auto, using(crate::proofs::Statuses::statuses_come))]
-fn play<S: Source, K: Sink>(alloc: Global, source: &mut S, sink: &mut K) -> Result<(), Failure>
-    ensures explains { Explains result (S.left source.old) (S.left source.new)
+fn play<S: Source, K: Sink>(
+    alloc: Global,
+    rules: &Rules,
+    source: &mut S,
+    sink: &mut K,
+) -> Result<(), Failure>
+    ensures explains { Explains (bounds_of rules.now) result (S.left source.old) (S.left source.new)
         (K.written sink.old) (K.written sink.new)
         (S.faults source.old) (S.faults source.new) (K.faults sink.old) (K.faults sink.new) }
     ensures statuses { may_come (S.left source.old) (code_of result) ≡ true }
@@ -68,20 +75,29 @@ fn play<S: Source, K: Sink>(alloc: Global, source: &mut S, sink: &mut K) -> Resu
             return Err(Failure::Shape { place });
         }
     };
-    write_report(alloc, scenario, sink)?;
+    write_report(alloc, rules, scenario, sink)?;
     Ok(())
 }
 
-/// Plays the scenario that the source holds, writes its report to the sink, and answers the exit status.
+/// Plays the scenario that the source holds by the rules, writes its report to the sink, and answers the exit
+/// status.
 #[tactic(auto, using(crate::proofs::Statuses::words_come))]
-pub fn run<S: Source, K: Sink>(alloc: Global, words: &[String], source: &mut S, sink: &mut K) -> u8
+pub fn run<S: Source, K: Sink>(
+    alloc: Global,
+    words: &[String],
+    rules: &Rules,
+    source: &mut S,
+    sink: &mut K,
+) -> u8
     // The source was read to its end, and the bytes written are the report of the scenario that all its bytes
     // read as.
     ensures done { result ≡ 0 →
-        Reports (S.left source.old) (S.left source.new) (K.written sink.old) (K.written sink.new) }
+        Reports (bounds_of rules.now) (S.left source.old) (S.left source.new)
+        (K.written sink.old) (K.written sink.new) }
     // Memory was wanting, and a front of the report was written, or nothing.
     ensures memory { result ≡ 1 → Keeps (K.written sink.old) (K.written sink.new)
-        ⊎ BeginsReport (S.left source.old) (S.left source.new) (K.written sink.old) (K.written sink.new) }
+        ⊎ BeginsReport (bounds_of rules.now) (S.left source.old) (S.left source.new)
+        (K.written sink.old) (K.written sink.new) }
     // The words aren't the one word `play`, and then nothing was read or written.
     ensures words { (result ≡ 2) ↔ (are_play (map string_bytes words.now) ≡ false) }
     ensures untouched { result ≡ 2 → (source.new ≡ source.old) × (sink.new ≡ sink.old) }
@@ -100,7 +116,8 @@ pub fn run<S: Source, K: Sink>(alloc: Global, words: &[String], source: &mut S, 
         × Keeps (K.written sink.old) (K.written sink.new) }
     // The sink failed, and a front of what is to be written was.
     ensures write_fault { result ≡ 7 → Rose (K.faults sink.old) (K.faults sink.new)
-        × BeginsAnswer (S.left source.old) (S.left source.new) (K.written sink.old) (K.written sink.new) }
+        × BeginsAnswer (bounds_of rules.now) (S.left source.old) (S.left source.new)
+        (K.written sink.old) (K.written sink.new) }
     // There are no other statuses, and of each kind of bytes no others than its own: so 0, 3, 4 or 5 by the
     // bytes alone, or else 1, 2, 6 or 7 for their causes.
     ensures statuses { may_come (S.left source.old) result ≡ true }
@@ -113,5 +130,5 @@ pub fn run<S: Source, K: Sink>(alloc: Global, words: &[String], source: &mut S, 
     if !are_play(words) {
         return code_of(Err(Failure::Words));
     }
-    code_of(play(alloc, source, sink))
+    code_of(play(alloc, rules, source, sink))
 }

@@ -19,7 +19,13 @@ fn played(
     let bytes = Vec::from_slice(alloc, input.as_bytes())?;
     let mut source = MemSource::new(bytes, vec![in alloc; read]?);
     let mut sink = MemSink::new(alloc, vec![in alloc; write]?);
-    let status = run(alloc, words.as_slice(), &mut source, &mut sink);
+    let status = run(
+        alloc,
+        words.as_slice(),
+        &Rules::new(),
+        &mut source,
+        &mut sink,
+    );
     Ok((status, Vec::from_slice(alloc, sink.bytes())?))
 }
 
@@ -61,35 +67,19 @@ fn the_limit(rt: HostRuntime) -> Result<(), Fail> {
     Ok(())
 }
 
-// A scenario of so many settles.
-fn settles(alloc: Global, count: usize) -> Result<String, Fail> {
-    let mut text = String::from_str(
-        alloc,
-        r#"{"version":1,"processes":["web"],"steps":[{"do":"settle"}"#,
-    )?;
-    for _ in 1..count {
-        text.push_str(r#",{"do":"settle"}"#)?;
-    }
-    text.push_str("]}")?;
-    Ok(text)
-}
-
-#[test]
-fn too_many_steps(rt: HostRuntime) -> Result<(), Fail> {
-    let input = settles(rt.alloc(), 20_001)?;
-    let (status, text) = played(rt.alloc(), "play", input.as_str(), 0, 0)?;
-    assert_eq!(rt; status, 4);
-    assert_eq!(rt; text.as_slice(), "shape 20001\n".as_bytes());
-    Ok(())
-}
-
 // Where neither end can fail, no fault is answered: this is proved before it is run.
 #[test]
 fn sure_ends_never_fail(rt: HostRuntime) -> Result<(), Fail> {
     let words = vec![in rt.alloc(); String::from_str(rt.alloc(), "play")?]?;
     let mut source = SureSource::new(Vec::from_slice(rt.alloc(), EMPTY.as_bytes())?);
     let mut sink = SureSink::new();
-    let status = run(rt.alloc(), words.as_slice(), &mut source, &mut sink);
+    let status = run(
+        rt.alloc(),
+        words.as_slice(),
+        &Rules::new(),
+        &mut source,
+        &mut sink,
+    );
     let holds = status != 6 && status != 7;
     prove!(holds);
     assert_eq!(rt; status, 0);
@@ -100,7 +90,14 @@ fn sure_ends_never_fail(rt: HostRuntime) -> Result<(), Fail> {
 fn the_exit_status(rt: HostRuntime) -> Result<(), Fail> {
     let mut source = SureSource::new(Vec::from_slice(rt.alloc(), EMPTY.as_bytes())?);
     let mut sink = SureSink::new();
-    let status = ended(rt.alloc(), Err(OutOfMemory), &mut source, &mut sink, &rt);
+    let status = ended(
+        rt.alloc(),
+        Err(OutOfMemory),
+        &Rules::new(),
+        &mut source,
+        &mut sink,
+        &rt,
+    );
     assert!(rt; status == ExitCode::from(1));
     Ok(())
 }

@@ -2,9 +2,10 @@
 use Rattle.std.proofs.Common.{◌≡◌, ℕ, ◌+◌, ◌≤◌, List, [], ◌∷◌, length, refl, sym, subst, arith}
 use Rattle.wire_msgs.specs.Config.{ConfigFits}
 use Rattle.wire_msgs.specs.declared.config.Config.{Config}
+use Rattle.field_rules.specs.Bounds.{Bounds}
 use Rattle.protocol.specs.Start.{numbers}
 use Rattle.model.specs.Laws.{RunFits, SettlingEnds, StepAddsLittle}
-use Rattle.model.specs.Moments.{moments}
+use Rattle.model.specs.Moments.{moments_of}
 use Rattle.model.specs.Next.{Run, run_at_start, run_after}
 use Rattle.model.specs.Settling.{total, weight_at, weight, settled}
 use Rattle.model.proofs.Rounds.{goes_rounds}
@@ -15,9 +16,9 @@ use Rattle.report.specs.Report.{run_after_line}
 
 -- ---- a line
 
-settled_fits : (r : Run) → RunFits r → RunFits (settled r)
+settled_fits : (b : Bounds) (r : Run) → RunFits r → RunFits (settled b r)
 unfolding settled
-settled_fits r fits = (goes_rounds (weight r) r fits).fits
+settled_fits b r fits = (goes_rounds b (weight r) r fits).fits
 
 -- what holds of the run after a line
 pub record GoesOn (r w : Run) : Type 0 where
@@ -25,17 +26,17 @@ pub record GoesOn (r w : Run) : Type 0 where
   pub fits : RunFits w
   pub room : length w.journal + weight w ≤ length r.journal + weight r + 65
 
-goes_on : SettlingEnds → StepAddsLittle → (r : Run) (l : Line) → RunFits r → LineFits (length r.config.types) l → GoesOn r (run_after_line r l)
-goes_on settling adding r (lines.Step step) fits here =
-    let next : RunFits (run_after r step) = record { config = fits.config; steps = (here, fits.steps) } in
-    record { config = refl; fits = next; room = adding r step next }
-goes_on settling adding r lines.Settle fits here =
-    let settles = settling r fits in
-    record { config = settles.config; fits = settled_fits r fits; room = omega (arith, settles.falls) }
-goes_on settling adding r (lines.Show show) fits here = record { config = refl; fits = fits; room = omega arith }
+goes_on : SettlingEnds → StepAddsLittle → (b : Bounds) (r : Run) (l : Line) → RunFits r → LineFits (length r.config.types) l → GoesOn r (run_after_line b r l)
+goes_on settling adding b r (lines.Step step) fits here =
+    let next : RunFits (run_after b r step) = record { config = fits.config; steps = (here, fits.steps) } in
+    record { config = refl; fits = next; room = adding b r step next }
+goes_on settling adding b r lines.Settle fits here =
+    let settles = settling b r fits in
+    record { config = settles.config; fits = settled_fits b r fits; room = omega (arith, settles.falls) }
+goes_on settling adding b r (lines.Show show) fits here = record { config = refl; fits = fits; room = omega arith }
 
-pub line_goes_on : SettlingEnds → StepAddsLittle → (r w : Run) (l : Line) → RunFits r → LineFits (length r.config.types) l → w ≡ run_after_line r l → GoesOn r w
-line_goes_on settling adding r w l fits here next = subst (λ (x : Run). GoesOn r x) (sym next) (goes_on settling adding r l fits here)
+pub line_goes_on : SettlingEnds → StepAddsLittle → (b : Bounds) (r w : Run) (l : Line) → RunFits r → LineFits (length r.config.types) l → w ≡ run_after_line b r l → GoesOn r w
+line_goes_on settling adding b r w l fits here next = subst (λ (x : Run). GoesOn r x) (sym next) (goes_on settling adding b r l fits here)
 
 -- ---- the start
 
@@ -47,5 +48,5 @@ total_zero w [] none = refl
 total_zero w (p ∷ ps) none = omega (arith, none p, total_zero w ps none)
 
 pub nothing_at_start : (c : Config) → weight (run_at_start c) ≡ 0
-unfolding weight moments
+unfolding weight moments_of
 nothing_at_start c = total_zero (λ p. weight_at p []) (numbers 0 (length c.types)) (λ p. refl)

@@ -6,6 +6,7 @@ use Rattle.fission_ids.specs.Ids.{context_text}
 use Rattle.field_table.specs.declared.field.Field.{Field}
 use Rattle.field_table.specs.declared.value.Value.{Value}
 use Rattle.field_table.specs.Field.{name}
+use Rattle.field_rules.specs.Bounds.{Bounds, range, no_number}
 use Rattle.wire_msgs.specs.declared.answer.Answer.{Answer}
 use Rattle.wire_msgs.specs.declared.config.Config.{Config}
 use Rattle.journal.specs.declared.entry.Step.{Step}
@@ -14,12 +15,13 @@ use Rattle.report_words.specs.Values.{value_text}
 use Rattle.report_words.specs.Words.{step_text, answer_text}
 use Rattle.scenario.specs.declared.line.Actor.{Actor}
 use Rattle.scenario.specs.declared.line.Actor.TheVariants as actors
+use Rattle.scenario.specs.declared.line.Show.{Show}
 use Rattle.scenario.specs.declared.line.Show.TheVariants.{One}
 use Rattle.scenario.specs.declared.line.Line.{Line}
 use Rattle.scenario.specs.declared.line.Line.TheVariants as lines
 use Rattle.scenario.specs.declared.line.Scenario.{Scenario}
 use Rattle.model.specs.View.{view, parent_view}
-use Rattle.model.specs.Next.{Run, run_at_start, run_after, answer_of}
+use Rattle.model.specs.Next.{Run, run_at_start, run_after, moment_after}
 use Rattle.model.specs.Settling.{settled}
 
 -- ---- the lines
@@ -71,36 +73,45 @@ abbrev pub value_shown : Run → Actor → ContextId → Field → Option Value
 value_shown r actors.Parent x f = parent_view r.config x f r.journal
 value_shown r (actors.Process p) x f = view r.config p.0 x f r.journal
 
--- how many entries settling adds
-abbrev pub deliveries : Run → ℕ
-deliveries r = length (settled r).journal - length r.journal
+-- how many entries settling adds, by the bounds of the rule functions
+abbrev pub deliveries : Bounds → Run → ℕ
+deliveries b r = length (settled b r).journal - length r.journal
 
 -- the run after a line
-abbrev pub run_after_line : Run → Line → Run
-run_after_line r (lines.Step step) = run_after r step
-run_after_line r lines.Settle = settled r
-run_after_line r (lines.Show show) = r
+abbrev pub run_after_line : Bounds → Run → Line → Run
+run_after_line b r (lines.Step step) = run_after b r step
+run_after_line b r lines.Settle = settled b r
+run_after_line b r (lines.Show show) = r
+
+-- the line of what a side shows
+abbrev pub shown_text : ℕ → Run → Show → List ℕ
+shown_text n r (One who x f) = show_text n who x f (value_shown r who x f)
 
 -- the n-th line
-abbrev pub line_text : ℕ → Run → Line → List ℕ
-line_text n r (lines.Step step) = entry_text (Some n) step (answer_of r.config r.journal step)
-line_text n r lines.Settle = settle_text n (deliveries r)
-line_text n r (lines.Show (One who x f)) = show_text n who x f (value_shown r who x f)
+abbrev pub line_text : Bounds → ℕ → Run → Line → List ℕ
+line_text b n r (lines.Step step) =
+    entry_text (Some n) step (moment_after b r.config r.journal step).answer
+line_text b n r lines.Settle = settle_text n (deliveries b r)
+line_text b n r (lines.Show show) = shown_text n r show
 
 -- the lines from the n-th on
-unfoldable pub body_text : ℕ → Run → List Line → List ℕ
-body_text n r [] = []
-body_text n r (l ∷ ls) = line_text n r l ++ body_text (n + 1) (run_after_line r l) ls
+unfoldable pub body_text : Bounds → ℕ → Run → List Line → List ℕ
+body_text b n r [] = []
+body_text b n r (l ∷ ls) = line_text b n r l ++ body_text b (n + 1) (run_after_line b r l) ls
 
 -- the run after all the lines
-unfoldable pub run_at_end : Run → List Line → Run
-run_at_end r [] = r
-run_at_end r (l ∷ ls) = run_at_end (run_after_line r l) ls
+unfoldable pub run_at_end : Bounds → Run → List Line → Run
+run_at_end b r [] = r
+run_at_end b r (l ∷ ls) = run_at_end b (run_after_line b r l) ls
 
 -- the lines from the first on, and the end
-abbrev pub played_text : Run → List Line → List ℕ
-played_text r ls = body_text 1 r ls ++ end_text (length (run_at_end r ls).journal)
+abbrev pub played_text : Bounds → Run → List Line → List ℕ
+played_text b r ls = body_text b 1 r ls ++ end_text (length (run_at_end b r ls).journal)
 
 -- the report of a scenario
-abbrev pub text : Scenario → List ℕ
-text s = head_text s.config ++ played_text (run_at_start s.config) s.lines
+abbrev pub text : Bounds → Scenario → List ℕ
+text b s = head_text s.config ++ played_text b (run_at_start s.config) s.lines
+
+-- the bounds that the programs play by
+abbrev pub player_bounds : Bounds
+player_bounds = record { full = range 50 300; text = no_number }

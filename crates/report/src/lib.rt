@@ -7,11 +7,13 @@ mod fault;
 mod lines;
 mod passing;
 mod playing;
+mod rules;
 mod writing;
 
 pub use fault::ReportFault;
 pub use lines::place_line;
 pub use playing::write_report;
+pub use rules::{full_zoom, text_zoom};
 pub use writing::{entry, head, last, settled, shown};
 
 #[cfg(test)]

@@ -1,5 +1,6 @@
 use super::*;
 use edge::{Failed, MemSink};
+use field_rules::Rules;
 use fission_ids::{OutOfMemory, ProcId};
 use journal::{Entry, Step};
 use scenario::read;
@@ -26,7 +27,7 @@ fn written(alloc: Global, fails: u64) -> Result<(usize, Result<(), ReportFault>)
         return Err(Fail::from("no scenario"));
     };
     let mut sink = MemSink::new(alloc, Vec::from_slice(alloc, &[fails])?);
-    let result = write_report(alloc, scenario, &mut sink);
+    let result = write_report(alloc, &Rules::new(), scenario, &mut sink);
     Ok((sink.bytes().len(), result))
 }
 

@@ -6,7 +6,7 @@ ghost use Rattle.edge.specs.Pieces.{Writes};
 ghost use Rattle.scenario.specs.declared.line.Line.TheVariants as lines;
 ghost use Rattle.scenario.specs.Fits.{ActorFits, LineFits};
 ghost use Rattle.report.specs.Passing.{CountsFault};
-ghost use Rattle.report.specs.Report.{head_text, entry_text, settle_text, value_shown, line_text, end_text};
+ghost use Rattle.report.specs.Report.{head_text, entry_text, settle_text, value_shown, shown_text, end_text};
 
 use crate::fault::ReportFault;
 use crate::lines::{end_line, entry_line, head_line, settle_line, show_line};
@@ -90,7 +90,7 @@ pub fn shown<K: Sink>(
 ) -> Result<(), ReportFault>
     requires { LineFits (length world.now.config.types) (lines.Show show) }
     ensures bytes { Writes (K.written sink.old) (K.written sink.new) result
-        (line_text number world.now (lines.Show show)) }
+        (shown_text number world.now show) }
     ensures faults { CountsFault (K.faults sink.old) (K.faults sink.new) result }
 {
     let Show::One {

@@ -1,6 +1,6 @@
 -- The new values of fields: one member of the object after the other, and field by field.
 use Rattle.std.proofs.Common.{◌≡◌, ℕ, zero, suc, ◌+◌, ◌<◌, ◌&&◌, Bool, true, false, cond, List, [], ◌∷◌, length, map, get_or, set, drop, Option, None, Some, Result, Ok, Err, is_some, String, Global, string_bytes, bytes_eq, Less, Equal, inl, inr, refl, sym, ap, subst, ◌∙◌, arith}
-use Rattle.std.specs.Prelude.{find, option_and_then, if◌then◌else◌}
+use Rattle.std.specs.Prelude.{find}
 use Rattle.std.specs.Cmp.Lexicographic.{slice_cmp}
 use Rattle.std.specs.Ordering.{nat_cmp}
 use Rattle.std.specs.List.{AllByRecursion}
@@ -27,7 +27,7 @@ use Rattle.scenario.specs.declared.fault.ReadFault.{ReadFault}
 use Rattle.scenario.specs.declared.fault.ReadFault.TheVariants.{Shape}
 use Rattle.fission_ids.specs.Gives.{FailsWith}
 use Rattle.scenario.specs.Faults.{is_memory, ◌>>=◌, or_shape, asks}
-use Rattle.scenario.specs.Members.{may_be_named, field_named, is_field_name, all_named}
+use Rattle.scenario.specs.Members.{is_field_name, all_named}
 use Rattle.scenario.specs.Reading.{or_no_value, change_of, changes_of, named_change, named_changes}
 use Rattle.scenario.proofs.Loop.{and_then, bind_fails, FailsAt, at_bind}
 
@@ -42,17 +42,8 @@ passes : (p : Field → Bool) (fs : List Field) (f : Field) → find p fs ≡ So
 passes p [] f e = absurd cc
 passes p (g ∷ fs) f e = first_passes p g (find p fs) f (p g) refl (passes p fs f) e
 
-kept_is : (b : Bool) (g f : Field) → cond b (Some g) None ≡ Some f → Some g ≡ Some f
-kept_is true g f e = e
-kept_is false g f e = absurd cc
-
-named_is : (o : Option Field) (f : Field) → option_and_then (λ g. if may_be_named g then Some g else None) o ≡ Some f → o ≡ Some f
-named_is None f e = absurd cc
-named_is (Some g) f e = kept_is (may_be_named g) g f e
-
-name_of_key : (k : List ℕ) (f : Field) → field_named k ≡ Some f → name f ≡ k
-unfolding field_named
-name_of_key k f e = (bytes_eq-Decides (name f) k).0 (passes (λ g. bytes_eq (name g) k) fields f (named_is (field_of_name k) f e))
+name_of_key : (k : List ℕ) (f : Field) → field_of_name k ≡ Some f → name f ≡ k
+name_of_key k f e = (bytes_eq-Decides (name f) k).0 (passes (λ g. bytes_eq (name g) k) fields f e)
 
 -- each name is that of one field
 names : (f : Field) → field_of_name (name f) ≡ Some f
@@ -242,7 +233,7 @@ with_value place t e es f (Err fault) len above rest key is at =
     ap (λ x. Err x) at ∙ sym (asks_shape place (all_named is_field_name (members_view es)) (each read fields) all)
 
 with_field : (place : ℕ) (t : Changes) (e : Entry) (es : List Entry) (o : Option Field) → length t ≡ length fields → AllByRecursion (λ y. string_cmp e.0 y ≡ Less) (keys_of es) → IsReadAll place es
-    → field_named (string_bytes e.0) ≡ o
+    → field_of_name (string_bytes e.0) ≡ o
     → (change_in place o (view e.1) >>= λ c. put_in place (set t (number c.0) (Some c.1)) es)
     ≡ asks place (is_some o && all_named is_field_name (members_view es)) (each (read_at place t (members_view (e ∷ es))) fields)
 with_field place t e es None len above rest is = refl
@@ -251,7 +242,7 @@ with_field place t e es (Some f) len above rest is = with_value place t e es f (
 put_is : (place : ℕ) (es : List Entry) → IsStrictlySortedBy string_cmp (keys_of es) → IsReadAll place es
 unfolding put_in IsStrictlySortedBy
 put_is place [] sorted t len = sym (each_ok (new_value t) fields ∙ ap (λ (cs : Changes). Ok cs) (whole_is t len))
-put_is place (e ∷ es) sorted t len = with_field place t e es (field_named (string_bytes e.0)) len sorted.0 (put_is place es sorted.1) refl
+put_is place (e ∷ es) sorted t len = with_field place t e es (field_of_name (string_bytes e.0)) len sorted.0 (put_is place es sorted.1) refl
 
 -- ---- all of them
 

@@ -1,9 +1,8 @@
 -- What holds of each scenario that is read.
-use Rattle.std.proofs.Common.{◌≡◌, ℕ, suc, ◌+◌, ◌<◌, ◌≤◌, Bool, true, false, ◌&&◌, cond, ltb, leb, nat_eq, lit≤, not, ◌||◌, ◌∙◌, is_some, List, [], ◌∷◌, length, Option, Some, Result, Ok, Err, refl, ap, subst, arith}
+use Rattle.std.proofs.Common.{◌≡◌, ℕ, suc, ◌+◌, ◌<◌, ◌≤◌, Bool, true, false, ◌&&◌, cond, ltb, leb, nat_eq, lit≤, List, [], ◌∷◌, length, Option, Some, Result, Ok, Err, refl, ap, subst, arith}
 use Rattle.std.specs.Prelude.{IfOk, codes, option_and_then}
-use Rattle.std.specs.List.{AllByRecursion, list_all}
+use Rattle.std.specs.List.{AllByRecursion}
 use Rattle.std.proofs.lemmas.Bool.{ltb-true, leb-true}
-use Rattle.std.proofs.lemmas.List.Folds.{list_all_at}
 use Rattle.serde_json.specs.Data.{Data, Items, no_items, item}
 use Rattle.serde_json.specs.Events.{items_len}
 use Rattle.serde_json.specs.Find.{get, as_str, as_array}
@@ -12,16 +11,10 @@ use Rattle.fission_ids.specs.declared.process.ProcSet.{ProcSet}
 use Rattle.fission_ids.specs.ProcSet.{has}
 use Rattle.fission_ids.specs.declared.context.ContextId.{ContextId}
 use Rattle.field_table.specs.declared.field.Field.{Field}
-use Rattle.field_table.specs.Field.{fields, number}
-use Rattle.field_table.proofs.Tables.{stands}
-use Rattle.transaction.specs.Transaction.{Changes, new_value}
-use Rattle.wire_msgs.specs.declared.action.Action.TheVariants as own
-use Rattle.wire_msgs.specs.declared.action.ParentAction.TheVariants as parents
+use Rattle.transaction.specs.Transaction.{Changes}
 use Rattle.wire_msgs.specs.declared.config.StartTab.{StartTab}
 use Rattle.wire_msgs.specs.Config.{is_remote_type, IsRemoteType, TabFits}
-use Rattle.protocol.specs.Free.{is_free}
-use Rattle.journal.specs.Step.{IsFree, StepFits}
-use Rattle.journal.specs.declared.entry.Step.{Step}
+use Rattle.journal.specs.Step.{StepFits}
 use Rattle.journal.specs.declared.entry.Step.TheVariants as steps
 use Rattle.scenario.specs.declared.fault.ReadFault.{ReadFault}
 use Rattle.scenario.specs.declared.fault.ReadFault.TheVariants.{Shape}
@@ -35,7 +28,7 @@ use Rattle.fission_ids.specs.Gives.{Gives}
 use Rattle.scenario.specs.Faults.{is_memory, ◌>>=◌, asks, or_shape}
 use Rattle.scenario.specs.declared.members.Kind.TheVariants as kinds
 use Rattle.scenario.specs.Members.{allows, has_only, is_text, whole_number}
-use Rattle.scenario.specs.Reading.{type_of, types_of, processes_of, process_of, items_in, process_numbers, all_differ, are_others, proc_set_of, also_of, start_tab_of, start_tabs_of, context_at, transaction_of, is_free_in, write_of, set_line, take_line, hear_line, settle_line, actor_of, field_of, show_line, line_of, lines_of, with_types, scenario_of, or_unread, data_of, reading}
+use Rattle.scenario.specs.Reading.{type_of, types_of, processes_of, process_of, items_in, process_numbers, all_differ, are_others, proc_set_of, also_of, start_tab_of, start_tabs_of, context_at, transaction_of, write_of, set_line, take_line, hear_line, settle_line, actor_of, field_of, show_line, line_of, lines_of, with_types, scenario_of, or_unread, data_of, reading}
 use Rattle.scenario.specs.Fits.{ActorFits, LineFits, Fits}
 use Rattle.scenario.proofs.Also.{set_below, set_of_others}
 
@@ -182,26 +175,9 @@ actor_fits place n found who e =
     subst (λ (y : Actor). ActorFits n y) (ok_is (actors.Process p.0) who p.2) (process_below place n found p.0 p.1) in
     either (ActorFits n) (is_text (codes "parent") found) (Ok actors.Parent) read who (λ h. subst (λ (y : Actor). ActorFits n y) (ok_is actors.Parent who h) tt) second e
 
--- what holds of all fields holds of one
-of_each : (p : Field → Bool) (f : Field) (b : Bool) → list_all p fields ≡ true → p f ≡ b → b ≡ true
-of_each p f true all is = refl
-of_each p f false all is =
-    let none : list_all p fields ≡ false = list_all_at p fields (number f) f (stands f).below (ap p ((stands f).at f) ∙ is) in
-    absurd cc
-
-second_holds : (a b : Bool) → (not a || b) ≡ true → a ≡ true → b ≡ true
-second_holds true b e is = e
-second_holds false b e is = absurd cc
-
-all_free : (t : Changes) → list_all (is_free_in t) fields ≡ true → IsFree t
-all_free t all f is = second_holds (is_some (new_value t f)) (is_free f) (of_each (is_free_in t) f (is_free_in t f) all refl) is
-
-write_fits : (place n : ℕ) (who : Actor) (x : ContextId) (t : Changes) (s : Step) → ActorFits n who → write_of place who x t ≡ Ok s → StepFits n s
-unfolding write_of
-write_fits place n actors.Parent x t s fit e = subst (λ (y : Step). StepFits n y) (ok_is (steps.ParentAct (parents.Set x t)) s e) tt
-write_fits place n (actors.Process p) x t s fit e =
-    let a = asks_ok place (list_all (is_free_in t) fields) (Ok (steps.Act p (own.Set x t))) s e in
-    subst (λ (y : Step). StepFits n y) (ok_is (steps.Act p (own.Set x t)) s a.1) (record { process = fit; played = all_free t a.0 })
+write_fits : (n : ℕ) (who : Actor) (x : ContextId) (t : Changes) → ActorFits n who → StepFits n (write_of who x t)
+write_fits n actors.Parent x t fit = tt
+write_fits n (actors.Process p) x t fit = record { process = fit; played = tt }
 
 set_fits : (place n : ℕ) (d : Data) (l : Line) → set_line place n d ≡ Ok l → LineFits n l
 unfolding set_line
@@ -209,14 +185,13 @@ set_fits place n d l e =
     let at = get (codes "at") d in
     let found = context_at place (get (codes "context") d) in
     let changed = transaction_of place (get (codes "fields") d) in
-    let written : Actor → ContextId → Changes → Result Line ReadFault = λ who x t. write_of place who x t >>= λ step. Ok (lines.Step step) in
+    let written : Actor → ContextId → Changes → Result Line ReadFault = λ who x t. Ok (lines.Step (write_of who x t)) in
     let read : Actor → ContextId → Result Line ReadFault = λ who x. changed >>= written who x in
     let a = asks_ok place (has_only (allows kinds.Set) d) (actor_of place n at >>= λ who. found >>= read who) l e in
     let who = bind_ok (actor_of place n at) (λ who. found >>= read who) l a.1 in
     let x = bind_ok found (read who.0) l who.2 in
     let t = bind_ok changed (written who.0 x.0) l x.2 in
-    let s = bind_ok (write_of place who.0 x.0 t.0) (λ step. Ok (lines.Step step)) l t.2 in
-    subst (λ (y : Line). LineFits n y) (ok_is (lines.Step s.0) l s.2) (write_fits place n who.0 x.0 t.0 s.0 (actor_fits place n at who.0 who.1) s.1)
+    subst (λ (y : Line). LineFits n y) (ok_is (lines.Step (write_of who.0 x.0 t.0)) l t.2) (write_fits n who.0 x.0 t.0 (actor_fits place n at who.0 who.1))
 
 take_fits : (place n : ℕ) (d : Data) (l : Line) → take_line place n d ≡ Ok l → LineFits n l
 unfolding take_line

@@ -1,16 +1,13 @@
 -- The members of a JSON object that a scenario is made of.
 use denote.Ref.{Bor}
 use Rattle.std.specs.Prelude.{ℕ, List, [], ◌∷◌, Bool, true, false, ◌&&◌, Option, None, Some, is_some}
-use Rattle.std.specs.Prelude.{if◌then◌else◌, codes, option_and_then, option_map}
+use Rattle.std.specs.Prelude.{codes, option_and_then, option_map}
 use Rattle.std.specs.List.{list_any}
 use Rattle.std.specs.Str.{bytes_eq}
 use Rattle.serde_json.specs.Data.{Data, Members, no_members, member}
 use Rattle.serde_json.specs.Find.{as_str, as_number, as_u64, as_object}
 use Rattle.serde_json.specs.View.{view}
 use Rattle.serde_json.specs.declared.value.Value.{Value}
-use Rattle.field_table.specs.declared.field.Field.{Field}
-use Rattle.field_table.specs.declared.field.Field.TheVariants.{CurrentInnerWindowId, OpenerId}
-use Rattle.field_table.specs.declared.field.Field.TheVariants.{FullZoom, TextZoom}
 use Rattle.field_table.specs.Field.{field_of_name}
 use Rattle.scenario.specs.declared.members.Kind.{Kind}
 use Rattle.scenario.specs.declared.members.Kind.TheVariants as kinds
@@ -29,21 +26,9 @@ object_keys kinds.Show = codes "do" ∷ codes "at" ∷ codes "context" ∷ codes
 abbrev pub is_among : List (List ℕ) → List ℕ → Bool
 is_among keys k = list_any (λ key. bytes_eq k key) keys
 
--- whether a scenario may name the field
-abbrev pub may_be_named : Field → Bool
-may_be_named CurrentInnerWindowId = false
-may_be_named OpenerId = false
-may_be_named FullZoom = false
-may_be_named TextZoom = false
-may_be_named f = true
-
--- the field of a name, if it may be named
-unfoldable pub field_named : List ℕ → Option Field
-field_named text = option_and_then (λ f. if may_be_named f then Some f else None) (field_of_name text)
-
--- whether the key is the name of such a field
+-- whether the key is the name of a field
 abbrev pub is_field_name : List ℕ → Bool
-is_field_name k = is_some (field_named k)
+is_field_name k = is_some (field_of_name k)
 
 -- whether an object of this kind may have the key
 abbrev pub allows : Kind → List ℕ → Bool

@@ -1,7 +1,7 @@
 -- What bytes read as: the scenario, or the first fault. A fault of shape tells its place: 0 for the top
 -- object, 100000 + n for the n-th tab, n for the n-th step, 20001 for more than 20,000 steps.
-use Rattle.std.specs.Prelude.{◌+◌, ◌==◌, ◌&&◌, ◌||◌, ℕ, List, [], ◌∷◌, length, Bool, true, not}
-use Rattle.std.specs.Prelude.{nat_lt, nat_le, if◌then◌else◌, Option, None, Some, is_some, option_and_then}
+use Rattle.std.specs.Prelude.{◌+◌, ◌==◌, ◌&&◌, ℕ, List, [], ◌∷◌, length, Bool, true, not}
+use Rattle.std.specs.Prelude.{nat_lt, nat_le, if◌then◌else◌, Option, None, Some, option_and_then}
 use Rattle.std.specs.Prelude.{Result, Ok, Err, codes}
 use Rattle.std.specs.List.{list_all}
 use Rattle.std.specs.Str.{is_utf8}
@@ -17,14 +17,13 @@ use Rattle.fission_ids.specs.Ids.{context_of}
 use Rattle.field_table.specs.declared.field.Field.{Field}
 use Rattle.field_table.specs.declared.value.Value.{Value}
 use Rattle.field_table.specs.declared.value.ValueFault.{ValueFault}
-use Rattle.field_table.specs.Field.{fields, name, kind}
+use Rattle.field_table.specs.Field.{fields, field_of_name, name, kind}
 use Rattle.field_table.specs.Reading.{value_of}
-use Rattle.transaction.specs.Transaction.{Changes, new_value}
+use Rattle.transaction.specs.Transaction.{Changes}
 use Rattle.wire_msgs.specs.declared.action.Action.TheVariants as own
 use Rattle.wire_msgs.specs.declared.action.ParentAction.TheVariants as parents
 use Rattle.wire_msgs.specs.declared.config.StartTab.{StartTab}
 use Rattle.wire_msgs.specs.Config.{is_remote_type}
-use Rattle.protocol.specs.Free.{is_free}
 use Rattle.journal.specs.declared.entry.Step.{Step}
 use Rattle.journal.specs.declared.entry.Step.TheVariants as steps
 use Rattle.scenario.specs.declared.fault.ReadFault.{ReadFault}
@@ -37,7 +36,7 @@ use Rattle.scenario.specs.declared.line.Line.TheVariants as lines
 use Rattle.scenario.specs.declared.line.Scenario.{Scenario}
 use Rattle.scenario.specs.declared.members.Kind.TheVariants as kinds
 use Rattle.scenario.specs.Faults.{◌>>=◌, or_shape, asks}
-use Rattle.scenario.specs.Members.{allows, field_named, is_field_name, all_named}
+use Rattle.scenario.specs.Members.{allows, is_field_name, all_named}
 use Rattle.scenario.specs.Members.{has_only, has_member, is_text, whole_number}
 
 -- ---- processes and tabs
@@ -132,14 +131,14 @@ changes_of place [] ms = Ok []
 changes_of place (f ∷ fs) ms =
     change_of place f (get_member (name f) ms) >>= λ c. changes_of place fs ms >>= λ cs. Ok (c ∷ cs)
 
--- the new values of the fields, where each key is one that may be named
+-- the new values of the fields, where each key is the name of one
 abbrev pub named_changes : ℕ → Members → Result Changes ReadFault
 named_changes place ms = asks place (all_named is_field_name ms) (changes_of place fields ms)
 
--- a field that may be named, and its new value
+-- the field of a name, and its new value
 abbrev pub named_change : ℕ → List ℕ → Data → Result (Field × Value) ReadFault
 named_change place key d =
-    or_shape place (field_named key) >>= λ f.
+    or_shape place (field_of_name key) >>= λ f.
     or_no_value place (value_of (kind f) d) >>= λ v. Ok (f, v)
 
 -- an object of one field at least, and its value
@@ -148,15 +147,10 @@ transaction_of place found =
     or_shape place (option_and_then as_object found) >>= λ ms.
     asks place (has_member ms) (named_changes place ms)
 
--- whether a field isn't modified, or is one that every process may write
-abbrev pub is_free_in : Changes → Field → Bool
-is_free_in t f = not (is_some (new_value t f)) || is_free f
-
--- what one side does that writes fields: a process only those that every process may write
-unfoldable pub write_of : ℕ → Actor → ContextId → Changes → Result Step ReadFault
-write_of place actors.Parent x t = Ok (steps.ParentAct (parents.Set x t))
-write_of place (actors.Process p) x t =
-    asks place (list_all (is_free_in t) fields) (Ok (steps.Act p (own.Set x t)))
+-- what one side does that writes fields
+abbrev pub write_of : Actor → ContextId → Changes → Step
+write_of actors.Parent x t = steps.ParentAct (parents.Set x t)
+write_of (actors.Process p) x t = steps.Act p (own.Set x t)
 
 -- fields that one side writes
 unfoldable pub set_line : ℕ → ℕ → Data → Result Line ReadFault
@@ -164,8 +158,7 @@ set_line place n d =
     asks place (has_only (allows kinds.Set) d)
     (actor_of place n (get (codes "at") d) >>= λ who.
     context_at place (get (codes "context") d) >>= λ context.
-    transaction_of place (get (codes "fields") d) >>= λ t.
-    write_of place who context t >>= λ step. Ok (lines.Step step))
+    transaction_of place (get (codes "fields") d) >>= λ t. Ok (lines.Step (write_of who context t)))
 
 -- a bundle that a process takes
 unfoldable pub take_line : ℕ → ℕ → Data → Result Line ReadFault
@@ -185,7 +178,7 @@ unfoldable pub settle_line : ℕ → Data → Result Line ReadFault
 settle_line place d = asks place (has_only (allows kinds.Settle) d) (Ok lines.Settle)
 
 unfoldable pub field_of : ℕ → Option Data → Result Field ReadFault
-field_of place found = or_shape place (option_and_then field_named (option_and_then as_str found))
+field_of place found = or_shape place (option_and_then field_of_name (option_and_then as_str found))
 
 -- a field of a context that is shown, as one side has it
 unfoldable pub show_line : ℕ → ℕ → Data → Result Line ReadFault

@@ -2,10 +2,9 @@ ghost use Rattle.std.specs.Prelude.{◌≡◌, Bool, string_bytes};
 ghost use Rattle.std.specs.List.{list_all};
 ghost use Rattle.std.specs.BTreeMap.{keys};
 ghost use Rattle.serde_json.specs.View.{view, members_view};
-ghost use Rattle.scenario.specs.Members.{allows, field_named, may_be_named, data_found};
+ghost use Rattle.scenario.specs.Members.{allows, data_found};
 ghost use Rattle.scenario.specs.Members.{has_only, has_member, is_text, whole_number};
 
-use field_table::Field;
 use serde_json::{Map, Value};
 
 /// An object of a scenario, by the keys that it may have.
@@ -55,23 +54,6 @@ fn allows(kind: Kind, key: &str) -> bool
         Kind::Hear => key == "do" || key == "at" || key == "from",
         Kind::Settle => key == "do",
         Kind::Show => key == "do" || key == "at" || key == "context" || key == "field",
-    }
-}
-
-/// The field of a name, if a scenario may name it.
-#[tactic(auto, unfolding(crate::specs::Members::field_named))]
-pub fn field_named(name: &str) -> Option<Field>
-    ensures { result ≡ field_named name.now }
-{
-    Field::named(name).filter(|f| may_be_named(*f))
-}
-
-fn may_be_named(f: Field) -> bool
-    ensures { result ≡ may_be_named f }
-{
-    match f {
-        Field::CurrentInnerWindowId | Field::OpenerId | Field::FullZoom | Field::TextZoom => false,
-        _ => true,
     }
 }
 

@@ -1,29 +1,23 @@
 ghost use Rattle.std.specs.Prelude.{◌≡◌, ◌≤◌, true, option_and_then, Ok, IfOk};
-ghost use Rattle.std.specs.List.{list_all};
 ghost use Rattle.serde_json.specs.Find.{as_object};
 ghost use Rattle.serde_json.specs.View.{view, items_view, members_view};
-ghost use Rattle.field_table.specs.Field.{fields as all_fields, kind};
+ghost use Rattle.field_table.specs.Field.{kind};
 ghost use Rattle.field_table.specs.Reading.{value_of};
 ghost use Rattle.field_table.specs.Value.{is_of};
-ghost use Rattle.protocol.specs.Free.{is_free};
 ghost use Rattle.fission_ids.specs.Gives.{Gives, GivesBy};
-ghost use Rattle.wire_msgs.specs.declared.action.Action.TheVariants as own;
-ghost use Rattle.wire_msgs.specs.declared.action.ParentAction.TheVariants as parents;
-ghost use Rattle.journal.specs.declared.entry.Step.TheVariants as steps;
-ghost use Rattle.scenario.specs.Faults.{is_memory, or_shape, asks};
+ghost use Rattle.scenario.specs.Faults.{is_memory, or_shape};
 ghost use Rattle.scenario.specs.Members.{data_found};
 ghost use Rattle.scenario.specs.Reading.{lines_of, line_of, set_line, take_line, hear_line, settle_line};
-ghost use Rattle.scenario.specs.Reading.{show_line, write_of, is_free_in};
+ghost use Rattle.scenario.specs.Reading.{show_line, write_of};
 ghost use Rattle.scenario.specs.Reading.{context_at, actor_of, field_of};
 ghost use Rattle.scenario.specs.Reading.{transaction_of, named_changes, named_change, or_no_value};
 
 use crate::fault::ReadFault;
 use crate::line::{Actor, Line, Show};
-use crate::members::{Kind, field_named, has_member, has_only, is_text};
+use crate::members::{Kind, has_member, has_only, is_text};
 use crate::processes::process_of;
-use field_rules::Rule;
 use field_table::{Field, ValueFault};
-use fission_ids::{ContextId, Kept, ProcId, Seq};
+use fission_ids::{ContextId, Kept, Seq};
 use journal::Step;
 use serde_json::{Map, Value};
 use std::alloc::Global;
@@ -80,77 +74,29 @@ fn set_line(alloc: Global, place: u32, count: u8, v: &Value) -> Result<Line, Rea
     let who = actor_of(place, count, v.get("at"))?;
     let context = context_at(place, v.get("context"))?;
     let fields = transaction_of(alloc, place, v.get("fields"))?;
-    let step = write_of(alloc, place, who, context, fields)?;
+    let step = write_of(alloc, who, context, fields)?;
     Ok(Line::Step(step))
 }
 
 // What one side does that writes fields.
-#[tactic(auto, unfolding(crate::specs::Reading::write_of))]
 fn write_of(
     alloc: Global,
-    place: u32,
     who: Actor,
     context: ContextId,
     fields: Transaction,
 ) -> Result<Step, ReadFault>
-    ensures { Gives is_memory result (write_of place who context fields) }
-{
-    match who {
-        Actor::Parent => parent_write(alloc, context, fields),
-        Actor::Process(p) => process_write(alloc, place, p, context, fields),
-    }
-}
-
-fn parent_write(alloc: Global, context: ContextId, fields: Transaction) -> Result<Step, ReadFault>
-    ensures { Gives is_memory result (Ok (steps.ParentAct (parents.Set context fields))) }
+    ensures { Gives is_memory result (Ok (write_of who context fields)) }
 {
     let fields = Kept::of(alloc, fields)?;
-    Ok(Step::ParentAct {
-        action: ParentAction::Set { context, fields },
+    Ok(match who {
+        Actor::Parent => Step::ParentAct {
+            action: ParentAction::Set { context, fields },
+        },
+        Actor::Process(p) => Step::Act {
+            p,
+            action: Action::Set { context, fields },
+        },
     })
-}
-
-fn process_write(
-    alloc: Global,
-    place: u32,
-    p: ProcId,
-    context: ContextId,
-    fields: Transaction,
-) -> Result<Step, ReadFault>
-    ensures { Gives is_memory result
-        (asks place (list_all (is_free_in fields) all_fields) (Ok (steps.Act p (own.Set context fields)))) }
-{
-    if !are_free(&fields, &Field::ALL) {
-        return Err(ReadFault::Shape { place });
-    }
-    let fields = Kept::of(alloc, fields)?;
-    Ok(Step::Act {
-        p,
-        action: Action::Set { context, fields },
-    })
-}
-
-// Whether every process may write those of these fields that are modified.
-fn are_free(fields: &Transaction, among: &[Field]) -> bool
-    ensures { result ≡ list_all (is_free_in fields.now) among.now }
-{
-    among.iter().all(|f| is_free_in(fields, *f))
-}
-
-fn is_free_in(fields: &Transaction, f: Field) -> bool
-    ensures { result ≡ is_free_in fields.now f }
-{
-    fields.value(f).is_none() || is_free(f)
-}
-
-// Whether every process may write a field of a top-level context.
-fn is_free(f: Field) -> bool
-    ensures { result ≡ is_free f }
-{
-    match Rule::of(f) {
-        Rule::Any | Rule::TopOnly => true,
-        _ => false,
-    }
 }
 
 #[tactic(auto, unfolding(crate::specs::Reading::take_line))]
@@ -232,7 +178,7 @@ fn actor_of(place: u32, count: u8, found: Option<&Value>) -> Result<Actor, ReadF
 fn field_of(place: u32, found: Option<&Value>) -> Result<Field, ReadFault>
     ensures { Gives is_memory result (field_of place (data_found found.entry)) }
 {
-    match found.and_then(Value::as_str).and_then(field_named) {
+    match found.and_then(Value::as_str).and_then(Field::named) {
         None => Err(ReadFault::Shape { place }),
         Some(field) => Ok(field),
     }
@@ -280,7 +226,7 @@ fn changes_of(
     Ok(changes)
 }
 
-// A field that may be named, and its new value.
+// The field of a name, and its new value.
 fn named_change(
     alloc: Global,
     place: u32,
@@ -290,7 +236,7 @@ fn named_change(
     ensures exact { Gives is_memory result (named_change place key.now (view v.now)) }
     ensures kind { IfOk result (λ c. is_of (kind c.0) c.1 ≡ true) }
 {
-    let Some(f) = field_named(key) else {
+    let Some(f) = Field::named(key) else {
         return Err(ReadFault::Shape { place });
     };
     let value = value_of(alloc, place, f, v)?;

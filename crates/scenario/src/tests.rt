@@ -27,10 +27,12 @@ const MOST: &str = r#"{
         {"at": "parent", "do": "set", "context": "c0.3", "fields": {
             "DisplayMode": 3, "DefaultLoadFlags": 4294967295, "Loading": true, "IsInBFCache": true,
             "SandboxFlags": 4294967295, "UserAgentOverride": "\u00e9", "MessageManagerGroup": "browsers",
-            "Muted": true, "ExplicitActive": 2, "Closed": true, "Name": "a b"
+            "Muted": true, "TextZoom": 500, "FullZoom": 30, "OpenerId": "c0.3",
+            "CurrentInnerWindowId": "w16.4294967295", "ExplicitActive": 2, "Closed": true, "Name": "a b"
         }},
         {"at": "parent", "do": "set", "context": "c16.4294967295", "fields": {
-            "Name": "", "Closed": false, "ExplicitActive": 0, "Muted": false, "MessageManagerGroup": "",
+            "Name": "", "Closed": false, "ExplicitActive": 0, "CurrentInnerWindowId": 0, "OpenerId": 0,
+            "FullZoom": 0, "TextZoom": 4294967295, "Muted": false, "MessageManagerGroup": "",
             "AllowContentRetargeting": false, "SandboxFlags": 0, "IsInBFCache": false, "Loading": false,
             "DefaultLoadFlags": 0, "DisplayMode": 0
         }},
@@ -38,7 +40,7 @@ const MOST: &str = r#"{
         {"at": "parent", "do": "show", "context": "c0.64", "field": "Name"},
         {"at": 2, "do": "take"},
         {"at": 1, "do": "set", "context": "c2.7", "fields": {
-            "UserAgentOverride": "w", "DisplayMode": 1, "Closed": true
+            "UserAgentOverride": "w", "DisplayMode": 1, "FullZoom": 120, "Muted": false, "Closed": true
         }},
         {"at": "parent", "do": "hear", "from": 2},
         {"do": "settle"}
@@ -96,17 +98,20 @@ fn a_scenario_with_most_in_it(rt: HostRuntime) -> Result<(), Fail> {
     let high = write(rt.alloc(), high)?;
     assert_eq!(rt;
         high.as_str(),
-        "0 3 'a b' true 2 - - - - true 'browsers' 'é' - 4294967295 true true 4294967295 3"
+        "0 3 'a b' true 2 73014444031 3 30 500 true 'browsers' 'é' - 4294967295 true true 4294967295 3"
     );
     let low = write(rt.alloc(), low)?;
     assert_eq!(rt;
         low.as_str(),
-        "16 4294967295 '' false 0 - - - - false '' - false 0 false false 0 0"
+        "16 4294967295 '' false 0 0 0 0 4294967295 false '' - false 0 false false 0 0"
     );
     assert!(rt; shows_display_mode(show));
     assert!(rt; matches!(take, Line::Step(Step::Take { p: ProcId(2) })));
     let own = write(rt.alloc(), own)?;
-    assert_eq!(rt; own.as_str(), "2 7 - true - - - - - - - 'w' - - - - - 1");
+    assert_eq!(rt;
+        own.as_str(),
+        "2 7 - true - - - 120 - false - 'w' - - - - - 1"
+    );
     assert!(rt; matches!(hear, Line::Step(Step::Hear { p: ProcId(2) })));
     assert!(rt; matches!(settle, Line::Settle));
     Ok(())
@@ -191,7 +196,6 @@ const STEPS: &str = r#"7
 {"do":7,"at":0}
 {"do":"leave","at":0}
 {"do":"set","context":"c0.1","fields":{"Muted":true}}
-{"do":"set","at":0,"context":"c0.1","fields":{"Muted":true}}
 {"do":"set","at":2,"context":"c0.1","fields":{"Closed":true}}
 {"do":"set","at":"child","context":"c0.1","fields":{"Closed":true}}
 {"do":"set","at":0,"context":"c0.1","fields":{}}
@@ -227,10 +231,6 @@ const STEPS: &str = r#"7
 {"do":"show","at":0,"context":"w0.1","field":"Muted"}
 {"do":"show","at":0,"context":"c0.1","field":7}
 {"do":"show","at":0,"context":"c0.1","field":"Muted","fields":{}}
-{"do":"show","at":0,"context":"c0.1","field":"CurrentInnerWindowId"}
-{"do":"show","at":0,"context":"c0.1","field":"OpenerId"}
-{"do":"show","at":0,"context":"c0.1","field":"FullZoom"}
-{"do":"show","at":0,"context":"c0.1","field":"TextZoom"}
 {"do":"show","at":0,"context":"c0.1","field":"muted"}
 {"do":"show","at":0,"context":"c0.1","field":"Zoom"}
 {"do":"show","at":0,"context":"c0.1","field":""}"#;
@@ -254,10 +254,12 @@ w0.1
 0.1";
 
 // A member beside one that is right. Two texts have 65 bytes.
-const MEMBERS: &str = r#""CurrentInnerWindowId":0
-"OpenerId":0
-"FullZoom":100
-"TextZoom":100
+const MEMBERS: &str = r#""CurrentInnerWindowId":1
+"CurrentInnerWindowId":"c0.1"
+"OpenerId":4294967297
+"OpenerId":"c17.1"
+"FullZoom":4294967296
+"TextZoom":"100"
 "muted":true
 "Zoom":100
 "":0
@@ -282,24 +284,11 @@ const RIGHT_MEMBERS: &str = r#""Muted":false
 "ExplicitActive":2
 "DisplayMode":3
 "SandboxFlags":4294967295
+"CurrentInnerWindowId":"w16.4294967295"
+"OpenerId":0
+"FullZoom":0
+"TextZoom":4294967295
 "Name":"éééééééééééééééééééééééééééééééé""#;
-
-// Members that a process may not write.
-const PARENT_MEMBERS: &str = r#""Name":""
-"ExplicitActive":2
-"Muted":false
-"MessageManagerGroup":""
-"AllowContentRetargeting":true
-"SandboxFlags":0
-"IsInBFCache":false
-"Loading":false
-"DefaultLoadFlags":0
-"DisplayMode":4
-"FullZoom":100"#;
-
-const PROCESS_MEMBERS: &str = r#""Closed":false
-"UserAgentOverride":""
-"DisplayMode":0"#;
 
 // What comes behind the case is faulty too, and comes later.
 #[test]
@@ -323,8 +312,8 @@ fn places(rt: HostRuntime) -> Result<(), Fail> {
         (context, CONTEXTS, later_fields, 2),
         (member, MEMBERS, "}},7]}", 2),
         (member, RIGHT_MEMBERS, "}},7]}", 3),
-        (own, PARENT_MEMBERS, "}},7]}", 2),
-        (own, PROCESS_MEMBERS, "}},7]}", 3),
+        (own, MEMBERS, "}},7]}", 2),
+        (own, RIGHT_MEMBERS, "}},7]}", 3),
     ] {
         for text in cases.split('\n') {
             assert_eq!(rt;

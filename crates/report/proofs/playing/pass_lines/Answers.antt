@@ -1,4 +1,5 @@
 use Rattle.std.proofs.Common.{◌++◌, arith}
+use Rattle.field_rules.specs.RuleBounds.{bounds_of}
 use Rattle.edge.specs.Memory.{written_of}
 use Rattle.report.specs.Report.{body_text}
 use Rattle.report.proofs.Written.{line_begun, line_passed, lines_passed, run_at_end-next, run_at_end-last, fits-here, fits-next}
@@ -13,7 +14,7 @@ pass_line-requires g c = record {
 
 pub returns-in_err-world-clause-bytes : goal.returns-in_err-world-clause-bytes
 returns-in_err-world-clause-bytes g c =
-    line_begun c.from_residual.result c.loop-line.number c.loop-line.line-index c.loop-line.world c.args.lines.now c.line-item.result (written_of c.loop-line.pieces) (written_of c.pass_line.new.pieces) (written_of c.args.pieces.now ++ body_text 1 c.args.world c.args.lines.now) _ _ _
+    line_begun (bounds_of c.args.rules.now) c.from_residual.result c.loop-line.number c.loop-line.line-index c.loop-line.world c.args.lines.now c.line-item.result (written_of c.loop-line.pieces) (written_of c.pass_line.new.pieces) (written_of c.args.pieces.now ++ body_text (bounds_of c.args.rules.now) 1 c.args.world c.args.lines.now) _ _ _
     c.from_residual.ensures.0 c.loop-line-test.true c.line-item.is c.loop-line.invariant.so_far c.in_err-world.ensures.bytes
 
 pub loop-line-preserved : goal.loop-line-preserved
@@ -24,10 +25,10 @@ loop-line-preserved g c =
     let ls = c.args.lines.now in
     let next = c.in_ok-world.ensures.world in
     let here = fits-here i _ ls c.line-item.result c.loop-line-test.true c.line-item.is c.loop-line.invariant.fits in
-    let on = line_goes_on c.settling_ends.ensures c.a_step_adds_little.ensures r w c.line-item.result c.loop-line.invariant.plays here next in
+    let on = line_goes_on c.settling_ends.ensures c.a_step_adds_little.ensures (bounds_of c.args.rules.now) r w c.line-item.result c.loop-line.invariant.plays here next in
     record {
-      so_far = line_passed c.loop-line.number i r w ls c.line-item.result (written_of c.loop-line.pieces) (written_of c.pass_line.new.pieces) _ _ _ _ c.loop-line-test.true c.line-item.is next c.loop-line.invariant.so_far c.in_ok-world.ensures.bytes;
-      run = run_at_end-next i r w _ ls c.line-item.result c.loop-line-test.true c.line-item.is next c.loop-line.invariant.run;
+      so_far = line_passed (bounds_of c.args.rules.now) c.loop-line.number i r w ls c.line-item.result (written_of c.loop-line.pieces) (written_of c.pass_line.new.pieces) _ _ _ _ c.loop-line-test.true c.line-item.is next c.loop-line.invariant.so_far c.in_ok-world.ensures.bytes;
+      run = run_at_end-next (bounds_of c.args.rules.now) i r w _ ls c.line-item.result c.loop-line-test.true c.line-item.is next c.loop-line.invariant.run;
       plays = on.fits;
       room = omega (arith, c.loop-line.invariant.room, on.room);
       fits = fits-next i r w ls c.line-item.result c.loop-line-test.true c.line-item.is on.config c.loop-line.invariant.fits;
@@ -36,8 +37,8 @@ loop-line-preserved g c =
     }
 
 pub returns-clause-world : goal.returns-clause-world
-returns-clause-world g c = run_at_end-last c.loop-line.line-index c.loop-line.world _ c.args.lines.now c.loop-line-test.false c.loop-line.invariant.run
+returns-clause-world g c = run_at_end-last (bounds_of c.args.rules.now) c.loop-line.line-index c.loop-line.world _ c.args.lines.now c.loop-line-test.false c.loop-line.invariant.run
 
 pub returns-clause-bytes : goal.returns-clause-bytes
 returns-clause-bytes g c =
-    lines_passed c.loop-line.number c.loop-line.line-index c.loop-line.world c.args.lines.now (written_of c.loop-line.pieces) (written_of c.args.pieces.now ++ body_text 1 c.args.world c.args.lines.now) _ _ c.loop-line-test.false c.loop-line.invariant.so_far
+    lines_passed (bounds_of c.args.rules.now) c.loop-line.number c.loop-line.line-index c.loop-line.world c.args.lines.now (written_of c.loop-line.pieces) (written_of c.args.pieces.now ++ body_text (bounds_of c.args.rules.now) 1 c.args.world c.args.lines.now) _ _ c.loop-line-test.false c.loop-line.invariant.so_far

@@ -1,4 +1,5 @@
 use Rattle.std.proofs.Common.{◌≡◌, ◌≤◌, ◌+◌, ◌*◌, ◌++◌, length, drop}
+use Rattle.field_rules.specs.RuleBounds.{bounds_of}
 use Rattle.std.specs.List.{AllByRecursion}
 use Rattle.edge.specs.Memory.{written_of}
 use Rattle.edge.specs.Pieces.{BeginsTo}
@@ -10,8 +11,8 @@ use Rattle.report.proofs.playing.pass_lines.Given as goal
 
 abbrev pub invariant-loop-line : goal.invariant-loop-line
 invariant-loop-line g l = record {
-  so_far : BeginsTo (written_of l.pieces ++ body_text l.number l.world (drop l.line-index l.lines)) (g.K.Sink.written l.fn.sink) (g.K.Sink.written l.sink) (written_of l.fn.pieces ++ body_text 1 l.fn.world l.lines);
-  run : run_at_end l.world (drop l.line-index l.lines) ≡ run_at_end l.fn.world l.lines;
+  so_far : BeginsTo (written_of l.pieces ++ body_text (bounds_of l.rules) l.number l.world (drop l.line-index l.lines)) (g.K.Sink.written l.fn.sink) (g.K.Sink.written l.sink) (written_of l.fn.pieces ++ body_text (bounds_of l.rules) 1 l.fn.world l.lines);
+  run : run_at_end (bounds_of l.rules) l.world (drop l.line-index l.lines) ≡ run_at_end (bounds_of l.rules) l.fn.world l.lines;
   plays : RunFits l.world;
   room : length l.world.journal + weight l.world ≤ length l.fn.world.journal + weight l.fn.world + 65 * l.line-index;
   fits : AllByRecursion (LineFits (length l.world.config.types)) (drop l.line-index l.lines);

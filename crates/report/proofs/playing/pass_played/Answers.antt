@@ -1,4 +1,5 @@
 use Rattle.std.proofs.Common.{List, ◌≡◌, ◌++◌, ◌+◌, ◌*◌, ◌<◌, length, sym, ap, subst, ◌∙◌, arith}
+use Rattle.field_rules.specs.RuleBounds.{bounds_of}
 use Rattle.std.specs.List.{AllByRecursion}
 use Rattle.edge.specs.Memory.{written_of}
 use Rattle.scenario.specs.Fits.{LineFits}
@@ -14,7 +15,7 @@ use Rattle.report.proofs.playing.pass_played.Goals as goal
 
 pub returns-in_err-world-clause-bytes : goal.returns-in_err-world-clause-bytes
 returns-in_err-world-clause-bytes g c =
-    unwritten c.from_residual.result (written_of c.args.pieces.now ++ played_text (run_at_start c.args.config) c.args.lines.now) (written_of c.args.pieces.now) (g.K.Sink.written c.args.sink.now) c.from_residual.ensures.0
+    unwritten c.from_residual.result (written_of c.args.pieces.now ++ played_text (bounds_of c.args.rules.now) (run_at_start c.args.config) c.args.lines.now) (written_of c.args.pieces.now) (g.K.Sink.written c.args.sink.now) c.from_residual.ensures.0
 
 pub pass_lines-requires : goal.pass_lines-requires
 pass_lines-requires g c =
@@ -34,8 +35,8 @@ returns-in_err-world-2-clause-bytes g c =
     let start = run_at_start c.args.config in
     let w = c.in_ok-world.world in
     let ls = c.args.lines.now in
-    errs_in_first c.from_residual-in_err-world-2.result (before ++ body_text 1 w ls) (end_text (length (run_at_end start ls).journal)) (before ++ played_text start ls) c.in_err-world-2.ensures.bytes.0 (written_of c.pass_lines.new.pieces) _ _
-    c.from_residual-in_err-world-2.ensures.0 (played_parts before w start ls c.in_ok-world.ensures) c.in_err-world-2.ensures.bytes.1
+    errs_in_first c.from_residual-in_err-world-2.result (before ++ body_text (bounds_of c.args.rules.now) 1 w ls) (end_text (length (run_at_end (bounds_of c.args.rules.now) start ls).journal)) (before ++ played_text (bounds_of c.args.rules.now) start ls) c.in_err-world-2.ensures.bytes.0 (written_of c.pass_lines.new.pieces) _ _
+    c.from_residual-in_err-world-2.ensures.0 (played_parts (bounds_of c.args.rules.now) before w start ls c.in_ok-world.ensures) c.in_err-world-2.ensures.bytes.1
 
 pub returns-in_err-in_memory-clause-bytes : goal.returns-in_err-in_memory-clause-bytes
 returns-in_err-in_memory-clause-bytes g c =
@@ -43,8 +44,8 @@ returns-in_err-in_memory-clause-bytes g c =
     let start = run_at_start c.args.config in
     let w = c.in_ok-world.world in
     let ls = c.args.lines.now in
-    errs_in_first c.from_residual-in_err-in_memory.result (before ++ body_text 1 w ls) (end_text (length (run_at_end start ls).journal)) (before ++ played_text start ls) (written_of c.pass_lines.new.pieces) (written_of c.last.new.sink) _ _
-    c.from_residual-in_err-in_memory.ensures.0 (played_parts before w start ls c.in_ok-world.ensures) c.in_ok-world-2.ensures.bytes
+    errs_in_first c.from_residual-in_err-in_memory.result (before ++ body_text (bounds_of c.args.rules.now) 1 w ls) (end_text (length (run_at_end (bounds_of c.args.rules.now) start ls).journal)) (before ++ played_text (bounds_of c.args.rules.now) start ls) (written_of c.pass_lines.new.pieces) (written_of c.last.new.sink) _ _
+    c.from_residual-in_err-in_memory.ensures.0 (played_parts (bounds_of c.args.rules.now) before w start ls c.in_ok-world.ensures) c.in_ok-world-2.ensures.bytes
 
 pub returns-clause-bytes : goal.returns-clause-bytes
 returns-clause-bytes g c =
@@ -55,7 +56,7 @@ returns-clause-bytes g c =
     let ls = c.args.lines.now in
     let mid = written_of c.pass_lines.new.pieces in
     let now = written_of c.last.new.sink in
-    begins_longer (before ++ body_text 1 w ls) (end_text (length (run_at_end start ls).journal)) (before ++ played_text start ls) mid now _ _
-    (played_parts before w start ls c.in_ok-world.ensures)
-    (appended c.last.result mid now (end_text (length v.journal)) c.in_ok-in_memory.ensures c.last.ensures.bytes ∙ ap (λ (l : List _). mid ++ l) (end_of_run v w start ls c.in_ok-world-2.ensures.world c.in_ok-world.ensures))
+    begins_longer (before ++ body_text (bounds_of c.args.rules.now) 1 w ls) (end_text (length (run_at_end (bounds_of c.args.rules.now) start ls).journal)) (before ++ played_text (bounds_of c.args.rules.now) start ls) mid now _ _
+    (played_parts (bounds_of c.args.rules.now) before w start ls c.in_ok-world.ensures)
+    (appended c.last.result mid now (end_text (length v.journal)) c.in_ok-in_memory.ensures c.last.ensures.bytes ∙ ap (λ (l : List _). mid ++ l) (end_of_run (bounds_of c.args.rules.now) v w start ls c.in_ok-world-2.ensures.world c.in_ok-world.ensures))
     c.in_ok-world-2.ensures.bytes

@@ -4,23 +4,24 @@ use Rattle.std.specs.List.{flat_map}
 use Rattle.std.proofs.lemmas.List.Concat.{flat_map-append}
 use Rattle.worked_rows.specs.declared.rows.Row.{Row}
 use Rattle.worked_rows.specs.Rows.{row_text}
+use Rattle.worked_rows.specs.Script.{script_text}
 
 parts : (n a s m r e b : List ℕ) → (n ++ (a ++ (s ++ (m ++ (r ++ e))))) ++ b ≡ n ++ (a ++ (s ++ (m ++ (r ++ (e ++ b)))))
 parts n a s m r e b = simp append_assoc
 
 -- a row that was read is what stood first
-row_read : (row : Row) (name scenario report behind rest : List ℕ) → string_bytes row.name ≡ name → string_bytes row.scenario ≡ scenario → string_bytes row.report ≡ report
+row_read : (row : Row) (name scenario report behind rest : List ℕ) → string_bytes row.name ≡ name → script_text row.scenario.items ≡ scenario → script_text row.report.items ≡ report
     → rest ≡ name ++ (codes "\n" ++ (scenario ++ (codes "--\n" ++ (report ++ (codes "==\n" ++ behind))))) → rest ≡ row_text row ++ behind
 unfolding row_text
 row_read row name scenario report behind rest n s r e =
-    let whole : row_text row ++ behind ≡ string_bytes row.name ++ (codes "\n" ++ (string_bytes row.scenario ++ (codes "--\n" ++ (string_bytes row.report ++ (codes "==\n" ++ behind))))) =
-    parts (string_bytes row.name) (codes "\n") (string_bytes row.scenario) (codes "--\n") (string_bytes row.report) (codes "==\n") behind in
-    e ∙ sym (whole ∙ ap (λ (x : List ℕ). x ++ (codes "\n" ++ (string_bytes row.scenario ++ (codes "--\n" ++ (string_bytes row.report ++ (codes "==\n" ++ behind)))))) n
-    ∙ ap (λ (x : List ℕ). name ++ (codes "\n" ++ (x ++ (codes "--\n" ++ (string_bytes row.report ++ (codes "==\n" ++ behind)))))) s
+    let whole : row_text row ++ behind ≡ string_bytes row.name ++ (codes "\n" ++ (script_text row.scenario.items ++ (codes "--\n" ++ (script_text row.report.items ++ (codes "==\n" ++ behind))))) =
+    parts (string_bytes row.name) (codes "\n") (script_text row.scenario.items) (codes "--\n") (script_text row.report.items) (codes "==\n") behind in
+    e ∙ sym (whole ∙ ap (λ (x : List ℕ). x ++ (codes "\n" ++ (script_text row.scenario.items ++ (codes "--\n" ++ (script_text row.report.items ++ (codes "==\n" ++ behind)))))) n
+    ∙ ap (λ (x : List ℕ). name ++ (codes "\n" ++ (x ++ (codes "--\n" ++ (script_text row.report.items ++ (codes "==\n" ++ behind)))))) s
     ∙ ap (λ (x : List ℕ). name ++ (codes "\n" ++ (scenario ++ (codes "--\n" ++ (x ++ (codes "==\n" ++ behind)))))) r)
 
 -- one row more
-pub one_row_more : (rows : List Row) (row : Row) (name scenario report behind rest text : List ℕ) → string_bytes row.name ≡ name → string_bytes row.scenario ≡ scenario → string_bytes row.report ≡ report
+pub one_row_more : (rows : List Row) (row : Row) (name scenario report behind rest text : List ℕ) → string_bytes row.name ≡ name → script_text row.scenario.items ≡ scenario → script_text row.report.items ≡ report
     → rest ≡ name ++ (codes "\n" ++ (scenario ++ (codes "--\n" ++ (report ++ (codes "==\n" ++ behind))))) → flat_map row_text rows ++ rest ≡ text
     → flat_map row_text (rows ++ row ∷ []) ++ behind ≡ text
 one_row_more rows row name scenario report behind rest text n s r e so_far =

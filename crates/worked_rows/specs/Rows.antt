@@ -7,25 +7,26 @@ use Rattle.scenario.specs.declared.fault.ReadFault.{ReadFault}
 use Rattle.scenario.specs.declared.fault.ReadFault.TheVariants.{Unread, Shape, OutOfMemory}
 use Rattle.scenario.specs.declared.line.Scenario.{Scenario}
 use Rattle.scenario.specs.Reading.{reading}
-use Rattle.report.specs.Report.{text, place_text}
+use Rattle.report.specs.Report.{text, place_text, player_bounds}
 use Rattle.worked_rows.specs.declared.rows.Row.{Row}
+use Rattle.worked_rows.specs.Script.{script_text, unfolded}
 
--- a row as it stands in the input: its name, the scenario, a line `--`, the report, and a line `==`
+-- a row as it stands in the input: its name, the scenario's script, a line `--`, the report's, a line `==`
 unfoldable pub row_text : Row → List ℕ
 row_text row =
-    string_bytes row.name ++ (codes "\n" ++ (string_bytes row.scenario ++
-    (codes "--\n" ++ (string_bytes row.report ++ codes "==\n"))))
+    string_bytes row.name ++ (codes "\n" ++ (script_text row.scenario.items ++
+    (codes "--\n" ++ (script_text row.report.items ++ codes "==\n"))))
 
 -- what is told of what bytes read as
 abbrev pub answer_text : Result Scenario ReadFault → List ℕ
-answer_text (Ok s) = text s
+answer_text (Ok s) = text player_bounds s
 answer_text (Err Unread) = []
 answer_text (Err (Shape place)) = place_text place
 answer_text (Err OutOfMemory) = []
 
 -- whether the report is another than what is told of the scenario
 abbrev pub differs : Row → Bool
-differs row = not (bytes_eq (answer_text (reading (string_bytes row.scenario))) (string_bytes row.report))
+differs row = not (bytes_eq (answer_text (reading (unfolded row.scenario.items))) (unfolded row.report.items))
 
 -- the name of a row, if its report differs
 abbrev pub name_if_differs : Row → List (List ℕ)

@@ -4,6 +4,7 @@
 
 mod played;
 mod rows;
+mod script;
 
 use anyhow::Result;
 use played::names_of_differing;

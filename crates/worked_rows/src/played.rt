@@ -4,21 +4,26 @@ ghost use Rattle.std.specs.Prelude.{◌≡◌, ◌++◌, IfOk, OnOk, map, string
 ghost use Rattle.edge.specs.Memory.{written_of};
 ghost use Rattle.scenario.specs.Fits.{Fits};
 ghost use Rattle.scenario.specs.Reading.{reading};
-ghost use Rattle.report.specs.Report.{text, place_text};
+ghost use Rattle.report.specs.Report.{text, place_text, player_bounds};
 ghost use Rattle.worked_rows.specs.Rows.{answer_text, differs, name_if_differs, names_of_differing};
 
 use crate::rows::Row;
+use crate::script::unfold;
 use anyhow::{Error, Result};
 use edge::{MemSink, write_all};
-use report::{place_line, write_report};
+use field_rules::Rules;
+use report::{full_zoom, place_line, text_zoom, write_report};
 use scenario::{ReadFault, Scenario, read};
 use std::alloc::Global;
 
 fn tell_report(alloc: Global, scenario: Scenario, sink: &mut MemSink) -> Result<()>
     requires { Fits scenario }
-    ensures { OnOk result (written_of sink.new ≡ written_of sink.old ++ text scenario) }
+    ensures { OnOk result (written_of sink.new ≡ written_of sink.old ++ text player_bounds scenario) }
 {
-    write_report(alloc, scenario, sink)?;
+    let rules = Rules::new()
+        .with_custom(0, 50, 300, full_zoom)
+        .with_custom(1, 1, 0, text_zoom);
+    write_report(alloc, &rules, scenario, sink)?;
     Ok(())
 }
 
@@ -45,9 +50,11 @@ fn tell(alloc: Global, scenario: &str, sink: &mut MemSink) -> Result<()>
 fn differs(alloc: Global, row: &Row) -> Result<bool>
     ensures { IfOk result (λ other. other ≡ differs row.now) }
 {
+    let scenario = unfold(alloc, row.scenario.as_slice())?;
+    let report = unfold(alloc, row.report.as_slice())?;
     let mut sink = MemSink::new(alloc, Vec::new(alloc));
-    tell(alloc, row.scenario.as_str(), &mut sink)?;
-    Ok(sink.bytes() != row.report.as_bytes())
+    tell(alloc, scenario.as_str(), &mut sink)?;
+    Ok(sink.bytes() != report.as_bytes())
 }
 
 fn push_if_differs(alloc: Global, row: &Row, names: &mut Vec<String>) -> Result<()>

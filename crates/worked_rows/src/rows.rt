@@ -1,33 +1,24 @@
 //! The rows of the input.
 
-ghost use Rattle.std.specs.Prelude.{◌≡◌, ◌≢◌, ◌++◌, ℕ, List};
-ghost use Rattle.std.specs.Prelude.{IfOk, IfSome, MatchOption, codes, string_bytes};
+ghost use Rattle.std.specs.Prelude.{◌≡◌, ◌++◌, IfOk, IfSome, codes, string_bytes};
 ghost use Rattle.std.specs.List.{flat_map};
 ghost use Rattle.std.specs.Str.{IsUtf8};
 ghost use Rattle.worked_rows.specs.Rows.{row_text};
+ghost use Rattle.worked_rows.specs.Script.{script_text};
 
+use crate::script::{Piece, cut, pieces_in};
 use anyhow::{Result, bail};
-use std::alloc::{AllocError, Global};
+use std::alloc::Global;
 
 /// A worked scenario.
 #[derive(Debug, Drop)]
 pub struct Row {
     /// What it's called.
     pub name: String,
-    /// The bytes that are read.
-    pub scenario: String,
-    /// What is to be told of them.
-    pub report: String,
-}
-
-// What stands before a mark and behind it.
-fn cut<'a>(text: &'a str, mark: &str) -> Option<(&'a str, &'a str)>
-    ensures found { MatchOption result
-        ((front back : List ℕ) → text.now ≢ front ++ (mark.now ++ back))
-        (λ parts. text.now ≡ parts.0.now ++ (mark.now ++ parts.1.now)) }
-    ensures utf8 { IfSome result (λ parts. IsUtf8 parts.1.now) }
-{
-    text.split_once(mark)
+    /// The script of the bytes that are read.
+    pub scenario: Vec<Piece>,
+    /// The script of what is to be told of them.
+    pub report: Vec<Piece>,
 }
 
 // The name, the scenario and the report of the first row, and what stands behind it.
@@ -43,15 +34,15 @@ fn first_row(text: &str) -> Option<(&str, &str, &str, &str)>
     Some((name, scenario, report, behind))
 }
 
-fn row_of(alloc: Global, name: &str, scenario: &str, report: &str) -> Result<Row, AllocError>
+fn row_of(alloc: Global, name: &str, scenario: &str, report: &str) -> Result<Row>
     ensures name { IfOk result (λ row. string_bytes row.name ≡ name.now) }
-    ensures scenario { IfOk result (λ row. string_bytes row.scenario ≡ scenario.now) }
-    ensures report { IfOk result (λ row. string_bytes row.report ≡ report.now) }
+    ensures scenario { IfOk result (λ row. script_text row.scenario.items ≡ scenario.now) }
+    ensures report { IfOk result (λ row. script_text row.report.items ≡ report.now) }
 {
     Ok(Row {
         name: String::from_str(alloc, name)?,
-        scenario: String::from_str(alloc, scenario)?,
-        report: String::from_str(alloc, report)?,
+        scenario: pieces_in(alloc, scenario)?,
+        report: pieces_in(alloc, report)?,
     })
 }
 

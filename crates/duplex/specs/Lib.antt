@@ -1,0 +1,6 @@
+pub mod Lanes
+pub mod Plays
+pub mod Seats
+pub mod Ends
+pub mod Joined
+pub mod Shown

@@ -1,0 +1,9 @@
+pub mod Lists
+pub mod Places
+pub mod Leftmost
+pub mod Spelled
+pub mod Faults
+pub mod Runs
+pub mod Breaks
+pub mod Spelt
+pub mod Standing

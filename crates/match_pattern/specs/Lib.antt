@@ -1,0 +1,4 @@
+pub mod Globs
+pub mod Reading
+pub mod Grammar
+pub mod Matching

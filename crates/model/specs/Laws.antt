@@ -61,7 +61,8 @@ RevertTakenShowsTheParent =
     → view r.config p.0 x f (record { step = Take p; answer = a } ∷ r.journal) ≡
     Some (value_at r.config p.0 x f k r.journal)
 
--- a reverted write that isn't answered has its revert on its way: the parent's value at the entry that sent it
+-- a reverted write that isn't answered has its revert on its way: the parent's value at the entry that sent
+-- it
 abbrev pub RevertsWait : Type 0
 RevertsWait =
     (r : Run) (p : ℕ) (x : ContextId) (f : Field) (n k : ℕ) → RunFits r → p < length r.config.types

@@ -12,9 +12,9 @@ use fission_ids::{OutOfMemory, ProcId};
 use journal::Step;
 
 impl World {
-    /// Delivers all that waits, as the rules judge it, process by process and round by round, until a round does
-    /// nothing. No base and no point of a process falls by it. An error says that memory is wanting, and then
-    /// nothing of the world is left.
+    /// Delivers all that waits, as the rules judge it, process by process and round by round, until a round
+    /// does nothing. No base and no point of a process falls by it. An error says that memory is wanting, and
+    /// then nothing of the world is left.
     pub fn settle(self, rules: &Rules) -> Result<World, OutOfMemory>
         requires { length self.journal + weight self < most_entries }
         ensures settled { IfOk result (λ w. w ≡ settled (bounds_of rules.now) self) }

@@ -63,7 +63,8 @@ impl World {
     }
 
     /// The world after one step more, as the rules judge what is heard. What the step came to is in the
-    /// newest entry of the journal. An error says that memory is wanting, and then nothing of the world is left.
+    /// newest entry of the journal. An error says that memory is wanting, and then nothing of the world is
+    /// left.
     pub fn step(self, rules: &Rules, step: Step) -> Result<World, OutOfMemory>
         requires step { StepFits (length self.config.types) step }
         requires room { length self.journal < most_entries }
@@ -72,8 +73,8 @@ impl World {
             base self.config p x f self.journal ≤ base w.config p x f w.journal) }
         ensures point { IfOk result (λ w. (p : ℕ) (x : ContextId) (f : Field) → p < length self.config.types →
             point self.config p x f self.journal ≤ point w.config p x f w.journal) }
-        // A process that takes the bundle which reverts its newest write to a field shows the parent's value at
-        // the entry that sent it.
+        // A process that takes the bundle which reverts its newest write to a field shows the parent's value
+        // at the entry that sent it.
         ensures reverted { IfOk result (λ w. (p : ProcId) (x : ContextId) (f : Field) (k : ℕ) →
             step ≡ Take p → is_held_at_start self.config.tabs p.0 x ≡ true →
             sent_first self.config p.0 self.journal ≡ Some k →

@@ -173,8 +173,8 @@ fn pass_played<K: Sink>(
     Ok(())
 }
 
-/// Plays a scenario by the rules and writes its report, in pieces of some 64 KB. After an error a front of the
-/// report was written. `Failed` comes exactly where the sink failed.
+/// Plays a scenario by the rules and writes its report, in pieces of some 64 KB. After an error a front of
+/// the report was written. `Failed` comes exactly where the sink failed.
 pub fn write_report<K: Sink>(
     alloc: Global,
     rules: &Rules,

@@ -1,4 +1,4 @@
-.PHONY: play test examples rows refuse-memory measure costs
+.PHONY: play test examples rows refuse-memory measure costs lanes
 
 # Proves the player, builds it, and plays its stored scenario.
 play:
@@ -35,3 +35,7 @@ measure:
 # Processor time and memory of trees and stores, as docs/ARCHITECTURE.md tells them.
 costs:
 	tools/costs.py
+
+# Items from one thread to another, through a lane and through a channel, as docs/ARCHITECTURE.md tells them.
+lanes:
+	tools/lanes.py

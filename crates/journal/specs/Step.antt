@@ -3,16 +3,19 @@ use Rattle.std.specs.Prelude.{ℕ, ◌<◌, ⊤}
 use Rattle.wire_msgs.specs.declared.action.Action.{Action}
 use Rattle.wire_msgs.specs.declared.action.Action.TheVariants as own
 use Rattle.wire_msgs.specs.declared.action.ParentAction.{ParentAction}
-use Rattle.wire_msgs.specs.declared.action.ParentAction.TheVariants.{Set}
+use Rattle.wire_msgs.specs.declared.action.ParentAction.TheVariants.{Set, Kill}
+use Rattle.wire_msgs.specs.declared.bundle.UpBundle.{UpBundle}
 use Rattle.journal.specs.declared.entry.Step.{Step}
-use Rattle.journal.specs.declared.entry.Step.TheVariants.{Act, Take, ParentAct, Hear}
+use Rattle.journal.specs.declared.entry.Step.TheVariants.{Act, Take, Raw, ParentAct, Hear}
+use Rattle.protocol.specs.Commits.{AreCommits}
 
--- so far the parent only writes fields
-abbrev pub IsPlayed : ParentAction → Type 0
-IsPlayed (Set x t) = ⊤
-IsPlayed action = ⊥
+-- so far the parent only writes fields, and ends processes, each one of n
+abbrev pub IsPlayed : ℕ → ParentAction → Type 0
+IsPlayed n (Set x t) = ⊤
+IsPlayed n (Kill p) = p.0 < n
+IsPlayed n action = ⊥
 
--- and so does a process
+-- and a process only writes fields
 abbrev pub IsPlayedByProcess : Action → Type 0
 IsPlayedByProcess (own.Set x t) = ⊤
 IsPlayedByProcess action = ⊥
@@ -22,9 +25,15 @@ pub record ActFits (n p : ℕ) (action : Action) : Type 0 where
   pub process : p < n
   pub played : IsPlayedByProcess action
 
+-- a raw bundle of a process, which is one of n; so far its parts are commits
+pub record RawFits (n p : ℕ) (bundle : UpBundle) : Type 0 where
+  pub process : p < n
+  pub parts : AreCommits bundle.parts
+
 -- a step can be played, and the process that it names is one of n
 abbrev pub StepFits : ℕ → Step → Type 0
 StepFits n (Act p action) = ActFits n p.0 action
 StepFits n (Take p) = p.0 < n
-StepFits n (ParentAct action) = IsPlayed action
+StepFits n (Raw p bundle) = RawFits n p.0 bundle
+StepFits n (ParentAct action) = IsPlayed n action
 StepFits n (Hear p) = p.0 < n

@@ -1,5 +1,5 @@
 use fission_ids::{Duplicate, OutOfMemory, ProcId};
-use wire_msgs::{Action, Answer, ParentAction};
+use wire_msgs::{Action, Answer, ParentAction, UpBundle};
 
 /// One event of one actor.
 #[derive(Debug, Drop)]
@@ -8,6 +8,8 @@ pub enum Step {
     Act { p: ProcId, action: Action },
     /// Process p takes the first bundle that waits for it.
     Take { p: ProcId },
+    /// Process p sends a bundle that is none of its own acts.
+    Raw { p: ProcId, bundle: UpBundle },
     /// The parent acts.
     ParentAct { action: ParentAction },
     /// The parent hears the first bundle that waits from process p.
@@ -22,6 +24,10 @@ impl Duplicate for Step {
                 action: action.copy()?,
             }),
             Step::Take { p } => Ok(Step::Take { p: *p }),
+            Step::Raw { p, bundle } => Ok(Step::Raw {
+                p: *p,
+                bundle: bundle.copy()?,
+            }),
             Step::ParentAct { action } => Ok(Step::ParentAct {
                 action: action.copy()?,
             }),

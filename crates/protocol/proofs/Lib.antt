@@ -1,4 +1,5 @@
 pub mod Notes
 pub mod Judging
-pub mod Honest
 pub mod Readings
+pub mod Heard
+pub mod Groups

@@ -1,17 +1,26 @@
 -- What the one commit of a bundle comes to, by the notes of its fields.
-use Rattle.std.specs.Prelude.{ℕ, ◌==◌, if◌then◌else◌, List, [], ◌∷◌}
+use Rattle.std.specs.Prelude.{ℕ, ◌==◌, if◌then◌else◌, List, [], ◌∷◌, ⊤}
 use Rattle.fission_ids.specs.declared.context.ContextId.{ContextId}
 use Rattle.transaction.specs.Transaction.{Changes}
 use Rattle.wire_msgs.specs.declared.answer.Answer.TheVariants.{Parts}
 use Rattle.wire_msgs.specs.declared.note.FieldNote.{FieldNote}
 use Rattle.wire_msgs.specs.declared.note.PartNote.TheVariants as notes
 use Rattle.wire_msgs.specs.declared.part.DownPart.{DownPart}
+use Rattle.wire_msgs.specs.declared.part.UpPart.{UpPart}
+use Rattle.wire_msgs.specs.declared.part.UpPart.TheVariants as ups
 use Rattle.protocol.specs.Questions.{Facts, is_told, is_judged}
 use Rattle.protocol.specs.Sayings.{Saying}
 use Rattle.protocol.specs.Sayings.Saying.{Wrote}
 use Rattle.protocol.specs.Hear.{is_noted, is_applied, is_reverted, changes_where, values_where}
 use Rattle.protocol.specs.Hear.{commit_unless_empty}
 use Rattle.protocol.specs.Bundle.{Ruling, ruling}
+
+-- so far the parts of a bundle are commits, one at least
+abbrev pub AreCommits : List UpPart → Type 0
+AreCommits [] = ⊥
+AreCommits (ups.Commit x t ∷ []) = ⊤
+AreCommits (ups.Commit x t ∷ a ∷ parts) = AreCommits (a ∷ parts)
+AreCommits (a ∷ parts) = ⊥
 
 -- what is applied of a commit, by its notes
 abbrev pub applied : List FieldNote → Changes → Changes

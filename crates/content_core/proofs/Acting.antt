@@ -1,5 +1,5 @@
 -- What an action of a process comes to, by why it is refused.
-use Rattle.std.proofs.Common.{◌≡◌, ◌≢◌, ◌∙◌, refl, sym, ap, subst, Bool, true, false, not, List, [], Option, None, Some}
+use Rattle.std.proofs.Common.{◌≡◌, ◌≢◌, ◌∙◌, refl, sym, ap, ap₂, subst, Bool, true, false, not, List, [], Option, None, Some}
 use Rattle.std.specs.Prelude.{is_some, unwrap_or, Result, Ok, Err, IfOk}
 use Rattle.std.specs.Option.{option_map_or}
 use Rattle.fission_ids.specs.declared.context.ContextId.{ContextId}
@@ -12,7 +12,7 @@ use Rattle.transaction.specs.Transaction.{Changes, new_value}
 use Rattle.wire_msgs.specs.declared.action.Action.TheVariants.{Set}
 use Rattle.wire_msgs.specs.declared.answer.Answer.TheVariants.{Refused}
 use Rattle.wire_msgs.specs.declared.refusal.Refusal.{Refusal}
-use Rattle.wire_msgs.specs.declared.refusal.Refusal.TheVariants.{Denied, NoContext}
+use Rattle.wire_msgs.specs.declared.refusal.Refusal.TheVariants.{Denied, NoContext, Stopped}
 use Rattle.protocol.specs.Hear.{set_of_fields}
 use Rattle.protocol.specs.Fold.{behind_all}
 use Rattle.protocol.specs.ParentActs.{refused_if, denial_refused}
@@ -36,13 +36,20 @@ module _ (k : Kept) (x : ContextId) (t : Changes) where
   abbrev denials : List Field
   denials = denied_to_process k.process s x t
 
-  held_or_not : (b : Bool) → s.holds x ≡ b → why_not ≡ refused_if (not b) NoContext (denial_refused denials)
+  why_by : (r b : Bool) → k.running ≡ r → s.holds x ≡ b → why_not ≡ refused_if (not r) Stopped (refused_if (not b) NoContext (denial_refused denials))
   unfolding refusal
-  held_or_not b is = ap (λ (c : Bool). refused_if (not c) NoContext (denial_refused denials)) is
+  why_by r b runs holds = ap₂ (λ (q c : Bool). refused_if (not q) Stopped (refused_if (not c) NoContext (denial_refused denials))) runs holds
+
+  -- the process doesn't run
+  pub refused-stopped : k.running ≡ false → Some Stopped ≡ why_not
+  refused-stopped is = sym (why_by false (s.holds x) is refl)
+
+  held_or_not : (b : Bool) → k.running ≡ true → s.holds x ≡ b → why_not ≡ refused_if (not b) NoContext (denial_refused denials)
+  held_or_not b runs is = why_by true b runs is
 
   -- the context isn't held
-  pub refused-absent : s.holds x ≡ false → Some NoContext ≡ why_not
-  refused-absent is = sym (held_or_not false is)
+  pub refused-absent : k.running ≡ true → s.holds x ≡ false → Some NoContext ≡ why_not
+  refused-absent runs is = sym (held_or_not false runs is)
 
   -- the denied fields as a set
   module _ (denied : FieldSet) (owned : Bool) (owns : owned ≡ s.owns x) (is_set : denied ≡ set_of (is_field_denied k.process owned x t)) where
@@ -52,22 +59,25 @@ module _ (k : Kept) (x : ContextId) (t : Changes) where
         ∙ ap (λ (b : Bool). set_of (is_field_denied k.process b x t)) owns
         ∙ sym (set-filtered (λ f. is_some (new_value t f)) (λ f. is_denied (question_of_own k.process s x f (unwrap_or (new_value t f) (Flag false)))))
 
-    pub allowed-none : s.holds x ≡ true → denied.0 ≡ 0 → None ≡ why_not
-    allowed-none held none = sym (held_or_not true held ∙ none-denied denials (ap (λ (d : FieldSet). d.0) (sym denied_set) ∙ none))
+    pub allowed-none : k.running ≡ true → s.holds x ≡ true → denied.0 ≡ 0 → None ≡ why_not
+    allowed-none runs held none = sym (held_or_not true runs held ∙ none-denied denials (ap (λ (d : FieldSet). d.0) (sym denied_set) ∙ none))
 
-    pub refused-denied : s.holds x ≡ true → denied.0 ≢ 0 → Some (Denied denied) ≡ why_not
-    refused-denied held some =
+    pub refused-denied : k.running ≡ true → s.holds x ≡ true → denied.0 ≢ 0 → Some (Denied denied) ≡ why_not
+    refused-denied runs held some =
         ap (λ (d : FieldSet). Some (Denied d)) denied_set
-        ∙ sym (held_or_not true held ∙ some-denied denials (λ e. some (ap (λ (d : FieldSet). d.0) denied_set ∙ e)))
+        ∙ sym (held_or_not true runs held ∙ some-denied denials (λ e. some (ap (λ (d : FieldSet). d.0) denied_set ∙ e)))
 
   -- what isn't refused is of a context that is held
   pub held-allowed : why_not ≡ None → s.holds x ≡ true
-  held-allowed none = by (s.holds x) refl
+  held-allowed none = by k.running (s.holds x) refl refl
     where
-      by : (b : Bool) → s.holds x ≡ b → b ≡ true
-      by true is = refl
-      by false is =
-          let e : Some NoContext ≡ None = refused-absent is ∙ none in
+      by : (r b : Bool) → k.running ≡ r → s.holds x ≡ b → b ≡ true
+      by r true runs is = refl
+      by true false runs is =
+          let e : Some NoContext ≡ None = refused-absent runs is ∙ none in
+          absurd (cc)
+      by false false runs is =
+          let e : Some Stopped ≡ None = refused-stopped runs ∙ none in
           absurd (cc)
 
   -- ---- the whole step

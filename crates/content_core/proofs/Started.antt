@@ -128,11 +128,11 @@ HoldsItsTabs-start k from = record {
     long false = tt
 
 pub seen-start : (p : ℕ) (tabs : List StartTab) (m : Content) (n : ℕ) → n ≡ 0 → HoldsFrom tabs p m
-    → seen_of (record { process = p; tabs = tabs; contexts = m; commits = n; taken = 0 }) ≡ seen_at_start tabs p
+    → seen_of (record { process = p; tabs = tabs; contexts = m; commits = n; taken = 0; running = true }) ≡ seen_at_start tabs p
 seen-start p tabs m n none from =
     let made : ℕ → (ContextId → Field → Option Value) → (ContextId → Field → ℕ) → Seen =
     λ k value newest. record (seen_at_start tabs p) { commits = k; value = value; newest = newest } in
-    let here : Seen = seen_of (record { process = p; tabs = tabs; contexts = m; commits = n; taken = 0 }) in
+    let here : Seen = seen_of (record { process = p; tabs = tabs; contexts = m; commits = n; taken = 0; running = true }) in
     ap (λ (k : ℕ). made k here.value here.newest) none
     ∙ ap₂ (made 0)
     (fun_ext (λ x. fun_ext (λ fld. ap (option_map (λ (s : Stored). value_in s.fields fld)) (from x) ∙ value fld (is_held_at_start tabs p x))))

@@ -21,8 +21,7 @@ use Rattle.wire_msgs.specs.declared.note.FieldNote.{FieldNote}
 use Rattle.wire_msgs.specs.declared.note.PartNote.{PartNote}
 use Rattle.wire_msgs.specs.declared.note.PartNote.TheVariants as notes
 use Rattle.wire_msgs.specs.declared.answer.Answer.TheVariants.{Parts}
-use Rattle.wire_msgs.specs.declared.part.DownPart.{DownPart}
-use Rattle.wire_msgs.specs.declared.part.DownPart.TheVariants.{Commit}
+use Rattle.wire_msgs.specs.declared.part.DownPart.TheVariants.{Commit, Kill}
 use Rattle.protocol.specs.Hear.{modified_fields, changes_where, is_noted, is_applied}
 use Rattle.protocol.specs.Seen.{Seen}
 use Rattle.protocol.specs.Seen.Doing.{Given, Took}
@@ -31,8 +30,8 @@ use Rattle.protocol.specs.Start.{is_held_at_start}
 use Rattle.protocol.specs.Fold.{behind_all, after_parts, notes_of, posts_of}
 use Rattle.protocol.specs.Take.{note, says, posts, taken_notes, bundle_step}
 use Rattle.content_core.specs.Content.{Kept, HoldsItsTabs, seen_of}
-use Rattle.content_core.specs.Moved.{MovedBy, IsCommit}
-use Rattle.content_core.specs.Steps.{commit_of, commit_note}
+use Rattle.content_core.specs.Moved.{MovedBy}
+use Rattle.content_core.specs.Steps.{commit_note, stopped_step}
 use Rattle.content_core.proofs.Changing.{get-changed, value-changed, there_too, long_at, is_the_same}
 use Rattle.content_core.proofs.Notes.{with_mark, mark_if, left-applied, notes-by_set}
 
@@ -45,12 +44,12 @@ newest-left t e fld false None = refl
 newest-left t e fld true (Some s) = refl
 newest-left t e fld false (Some s) = refl
 
-module _ (p : ℕ) (tabs : List StartTab) (m new : Content) (n j : ℕ) (x : ContextId) (t : Changes) (e : Epoch) where
+module _ (p : ℕ) (tabs : List StartTab) (m new : Content) (n j : ℕ) (running : Bool) (x : ContextId) (t : Changes) (e : Epoch) where
   abbrev before : Kept
-  before = record { process = p; tabs = tabs; contexts = m; commits = n; taken = j }
+  before = record { process = p; tabs = tabs; contexts = m; commits = n; taken = j; running = running }
 
   abbrev after : Kept
-  after = record { process = p; tabs = tabs; contexts = new; commits = n; taken = j + 1 }
+  after = record { process = p; tabs = tabs; contexts = new; commits = n; taken = j + 1; running = running }
 
   -- the notes of the commit, where the context is held
   abbrev ns : List FieldNote
@@ -108,7 +107,7 @@ module _ (p : ℕ) (tabs : List StartTab) (m new : Content) (n j : ℕ) (x : Con
   behind true held change holds = seen-given change holds held
   behind false absent change holds =
       let none : get m x ≡ None = not_there (get m x) (holds.held x ∙ absent) in
-      ap (λ (c : Content). seen_of (record { process = p; tabs = tabs; contexts = c; commits = n; taken = j + 1 })) (change ∙ changed_at-absent (stored_after_overlay t e) x m none)
+      ap (λ (c : Content). seen_of (record { process = p; tabs = tabs; contexts = c; commits = n; taken = j + 1; running = running })) (change ∙ changed_at-absent (stored_after_overlay t e) x m none)
     where
       not_there : (o : Option Stored) → is_some o ≡ false → o ≡ None
       not_there None is = refl
@@ -119,36 +118,29 @@ module _ (p : ℕ) (tabs : List StartTab) (m new : Content) (n j : ℕ) (x : Con
   unfolding note
   seen-taken change holds = behind (is_held_at_start tabs p x) refl change holds
 
--- the commit that the parts of a bundle are
-commit-parts : (parts : List DownPart) (x : ContextId) (t : Changes) → IsCommit parts → Some (x, t) ≡ commit_of parts → parts ≡ Commit x t ∷ []
-commit-parts parts x t is told =
-    let e : Some (x, t) ≡ Some (is.context, is.changes) = told ∙ ap commit_of is.is in
-    is.is ∙ ap (λ (o : Option (ContextId × Changes)). Commit (unwrap_or o (x, t)).0 (unwrap_or o (x, t)).1 ∷ []) (sym e)
-
--- a bundle moves the process as the rule says
-module _ (p : ℕ) (tabs : List StartTab) (m new : Content) (n j : ℕ) (x : ContextId) (t : Changes) (e : Epoch) (told : PartNote) where
+-- a commit moves the process as the rule says
+module _ (p : ℕ) (tabs : List StartTab) (m new : Content) (n j : ℕ) (running : Bool) (x : ContextId) (t : Changes) (e : Epoch) (told : PartNote) where
   abbrev old : Kept
-  old = before p tabs m new n j x t e
+  old = before p tabs m new n j running x t e
 
   abbrev core : Kept
-  core = after p tabs m new n j x t e
+  core = after p tabs m new n j running x t e
 
-  moved-commit : new ≡ content_after_change (stored_after_overlay t e) x m → HoldsItsTabs old → told ≡ commit_note x t (obsolete_at x t e m)
-      → MovedBy old (bundle_step (λ s. s) (seen_after p) p (record { epoch = e; parts = Commit x t ∷ [] }) (seen_of old)) (record { core = core; answer = Parts (told ∷ []); sent = None })
-  unfolding after_parts notes_of posts_of posts
-  moved-commit change holds is = record {
-    process = refl;
-    tabs = refl;
-    seen = seen-taken p tabs m new n j x t e change holds;
-    answer = ap (λ (note : PartNote). Parts (note ∷ [])) (is ∙ note-taken p tabs m new n j x t e holds);
-    sent = refl;
-  }
-
-  pub moved-taken : (k : Kept) (parts : List DownPart) (ns : List PartNote) → old ≡ k → IsCommit parts → Some (x, t) ≡ commit_of parts → new ≡ content_after_change (stored_after_overlay t e) x m
+  pub moved-commit : (k : Kept) (ns : List PartNote) → old ≡ k → new ≡ content_after_change (stored_after_overlay t e) x m
       → HoldsItsTabs old → told ≡ commit_note x t (obsolete_at x t e m) → ns ≡ told ∷ []
-      → MovedBy k (bundle_step (λ s. s) (seen_after k.process) k.process (record { epoch = e; parts = parts }) (seen_of k)) (record { core = core; answer = Parts ns; sent = None })
-  moved-taken k parts ns is commit told_is change holds note_is notes_are =
-      subst (λ (q : Kept). MovedBy q (bundle_step (λ s. s) (seen_after q.process) q.process (record { epoch = e; parts = parts }) (seen_of q)) (record { core = core; answer = Parts ns; sent = None })) is
-      (subst (λ (ps : List DownPart). MovedBy old (bundle_step (λ s. s) (seen_after p) p (record { epoch = e; parts = ps }) (seen_of old)) (record { core = core; answer = Parts ns; sent = None })) (sym (commit-parts parts x t commit told_is))
-      (subst (λ (l : List PartNote). MovedBy old (bundle_step (λ s. s) (seen_after p) p (record { epoch = e; parts = Commit x t ∷ [] }) (seen_of old)) (record { core = core; answer = Parts l; sent = None })) (sym notes_are)
-      (moved-commit change holds note_is)))
+      → MovedBy k (bundle_step (λ s. s) (seen_after k.process) k.process (record { epoch = e; parts = Commit x t ∷ [] }) (seen_of k)) (record { core = core; answer = Parts ns; sent = None })
+  unfolding after_parts notes_of posts_of posts
+  moved-commit k ns is change holds note_is notes_are =
+      subst (λ (q : Kept). MovedBy q (bundle_step (λ s. s) (seen_after q.process) q.process (record { epoch = e; parts = Commit x t ∷ [] }) (seen_of q)) (record { core = core; answer = Parts ns; sent = None })) is (record {
+        process = refl;
+        tabs = refl;
+        seen = seen-taken p tabs m new n j running x t e change holds;
+        answer = ap Parts notes_are ∙ ap (λ (note : PartNote). Parts (note ∷ [])) (note_is ∙ note-taken p tabs m new n j running x t e holds);
+        sent = refl;
+      })
+
+-- the rule of a kill
+pub kill_step : (p : ℕ) (e : Epoch) (s : Seen)
+    → bundle_step (λ q. q) (seen_after p) p (record { epoch = e; parts = Kill ∷ [] }) s ≡ stopped_step p s
+unfolding behind_all after_parts notes_of posts_of note says posts
+kill_step p e s = refl

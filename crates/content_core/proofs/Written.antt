@@ -53,12 +53,12 @@ newest-written t e n fld is true (Some s) there = marked t e s.epochs fld ∙ ap
 newest-written t e n fld is false (Some s) there = refl
 
 -- the answers behind a commit are those behind the write
-module _ (p : ℕ) (tabs : List StartTab) (m new : Content) (n count j : ℕ) (x : ContextId) (t : Changes) (e : Epoch) where
+module _ (p : ℕ) (tabs : List StartTab) (m new : Content) (n count j : ℕ) (running : Bool) (x : ContextId) (t : Changes) (e : Epoch) where
   abbrev before : Kept
-  before = record { process = p; tabs = tabs; contexts = m; commits = n; taken = j }
+  before = record { process = p; tabs = tabs; contexts = m; commits = n; taken = j; running = running }
 
   abbrev after : Kept
-  after = record { process = p; tabs = tabs; contexts = new; commits = count; taken = j }
+  after = record { process = p; tabs = tabs; contexts = new; commits = count; taken = j; running = running }
 
   abbrev made : ℕ → (ContextId → Field → Option Value) → (ContextId → Field → ℕ) → Seen
   made k value newest = record (seen_of before) { commits = k; value = value; newest = newest }

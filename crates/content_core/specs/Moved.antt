@@ -1,9 +1,7 @@
 -- What a process's call gives: the rule's answer, what it answers behind it, and what it sends.
-use Rattle.std.specs.Prelude.{◌≡◌, ◌-◌, ◌^◌, ◌<◌, List, [], ◌∷◌}
-use Rattle.fission_ids.specs.declared.context.ContextId.{ContextId}
-use Rattle.transaction.specs.Transaction.{Changes}
+use Rattle.std.specs.Prelude.{◌≡◌, ◌-◌, ◌^◌, ◌<◌, List, [], ◌∷◌, ⊤}
 use Rattle.wire_msgs.specs.declared.part.DownPart.{DownPart}
-use Rattle.wire_msgs.specs.declared.part.DownPart.TheVariants.{Commit}
+use Rattle.wire_msgs.specs.declared.part.DownPart.TheVariants.{Commit, Kill}
 use Rattle.protocol.specs.Seen.{Seen}
 use Rattle.protocol.specs.Take.{Step, bundle_sent}
 use Rattle.content_core.specs.Content.{Kept, seen_of}
@@ -22,8 +20,8 @@ pub record Counts (k : Kept) : Type 0 where
   pub commits : k.commits < 2 ^ 64 - 1
   pub taken : k.taken < 2 ^ 64 - 1
 
--- so far each bundle is one commit
-pub record IsCommit (parts : List DownPart) : Type 0 where
-  pub context : ContextId
-  pub changes : Changes
-  pub is : parts ≡ Commit context changes ∷ []
+-- so far each bundle is one commit, or tells the process to stop
+abbrev pub IsTaken : List DownPart → Type 0
+IsTaken (Commit x t ∷ []) = ⊤
+IsTaken (Kill ∷ []) = ⊤
+IsTaken _ = ⊥

@@ -19,13 +19,11 @@ use Rattle.wire_msgs.specs.declared.note.FieldNote.{FieldNote}
 use Rattle.wire_msgs.specs.declared.note.FieldMark.TheVariants.{Applied, Obsolete}
 use Rattle.wire_msgs.specs.declared.note.PartNote.{PartNote}
 use Rattle.wire_msgs.specs.declared.note.PartNote.TheVariants as notes
-use Rattle.wire_msgs.specs.declared.part.DownPart.{DownPart}
-use Rattle.wire_msgs.specs.declared.part.DownPart.TheVariants as downs
 use Rattle.wire_msgs.specs.declared.part.UpPart.TheVariants as ups
 use Rattle.wire_msgs.specs.declared.refusal.Refusal.{Refusal}
 use Rattle.protocol.specs.Hear.{modified_fields}
 use Rattle.protocol.specs.Seen.{Seen}
-use Rattle.protocol.specs.Seen.Doing.{Wrote}
+use Rattle.protocol.specs.Seen.Doing.{Wrote, Took, Stopped}
 use Rattle.protocol.specs.SeenAfter.{seen_after}
 use Rattle.protocol.specs.Start.{is_held_at_start, some_if}
 use Rattle.protocol.specs.Take.{Step}
@@ -59,10 +57,13 @@ abbrev pub written_step : ℕ → ContextId → Changes → Seen → Step Seen
 written_step p x t s =
     record { answer = answers.Done; kept = seen_after p (Wrote x t) s; sends = ups.Commit x t ∷ [] }
 
--- the commit that the parts are, if they are one
-abbrev pub commit_of : List DownPart → Option (ContextId × Changes)
-commit_of (downs.Commit x t ∷ []) = Some (x, t)
-commit_of _ = None
+-- a kill, taken by process p
+abbrev pub stopped_step : ℕ → Seen → Step Seen
+stopped_step p s = record {
+  answer = answers.Parts (notes.Kill ∷ []);
+  kept = seen_after p Took (seen_after p Stopped s);
+  sends = [];
+}
 
 -- what becomes of the modified fields, of which these are obsolete
 abbrev pub notes_beside : FieldSet → Changes → List FieldNote

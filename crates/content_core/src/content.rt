@@ -1,11 +1,12 @@
 ghost use Rattle.std.specs.Prelude.{◌≡◌, ◌+◌, ◌-◌, ◌^◌, ◌<◌, ◌≤◌, length, true, None, Some};
-ghost use Rattle.std.specs.Prelude.{IsSome, IfOk, OnOk, if◌then◌else◌};
+ghost use Rattle.std.specs.Prelude.{List, [], ◌∷◌, IfOk, OnOk, if◌then◌else◌};
 ghost use Rattle.std.specs.FinMap as finite;
 ghost use Rattle.std.specs.Option.{option_copied};
 ghost use Rattle.field_table.specs.FieldSet.{has, set_of};
 ghost use Rattle.wire_msgs.specs.Config.{ConfigFits};
 ghost use Rattle.wire_msgs.specs.declared.action.Action.TheVariants.{Set};
 ghost use Rattle.wire_msgs.specs.declared.note.FieldMark.TheVariants.{Applied, Obsolete};
+ghost use Rattle.wire_msgs.specs.declared.part.DownPart.TheVariants.{Commit};
 ghost use Rattle.context_store.specs.Content.{content_after_change, obsolete_at};
 ghost use Rattle.context_store.specs.Content.{stored_after_commit, stored_after_overlay};
 ghost use Rattle.protocol.specs.Start.{seen_at_start, nth_context, is_of_tab, tab_of};
@@ -13,9 +14,10 @@ ghost use Rattle.protocol.specs.SeenAfter.{seen_after};
 ghost use Rattle.protocol.specs.OwnActs.{action_step, refusal};
 ghost use Rattle.protocol.specs.Take.{bundle_step};
 ghost use Rattle.content_core.specs.Content.{seen_of, IsPlayed};
-ghost use Rattle.content_core.specs.Moved.{MovedBy, Counts, IsCommit};
-ghost use Rattle.content_core.specs.Steps.{unwritten, HoldsFrom, is_field_denied, refused_step, written_step};
-ghost use Rattle.content_core.specs.Steps.{commit_of, notes_beside, commit_note};
+ghost use Rattle.content_core.specs.Moved.{MovedBy, Counts, IsTaken};
+ghost use Rattle.content_core.specs.Steps.{unwritten, HoldsFrom, is_field_denied};
+ghost use Rattle.content_core.specs.Steps.{refused_step, written_step, stopped_step};
+ghost use Rattle.content_core.specs.Steps.{notes_beside, commit_note};
 
 use crate::moved::Moved;
 use context_store::{SlabStore, Store};
@@ -40,6 +42,7 @@ pub struct Content {
     contexts: SlabStore,
     clock: Clock,
     taken: u64,
+    running: bool,
 }
 
 impl Model for Content {
@@ -56,6 +59,7 @@ impl Model for Content {
       contexts = c.contexts;
       commits = c.clock;
       taken = c.taken;
+      running = c.running;
     } };
 
     ghost invariant = { λ c. HoldsItsTabs (view c) };
@@ -79,10 +83,11 @@ impl Content {
             contexts,
             clock: Clock::new(),
             taken: 0,
+            running: true,
         })
     }
 
-    /// The process acts of its own accord.
+    /// The process acts of its own accord. Where it doesn't run, that is refused as `Stopped`.
     pub fn act(self, action: Action) -> Result<Moved, OutOfMemory>
         requires action { IsPlayed action }
         requires counts { Counts self }
@@ -113,6 +118,9 @@ impl Content {
     fn refusal(&self, x: ContextId, t: &Transaction) -> Option<Refusal>
         ensures { result ≡ refusal self.now.process (seen_of self.now) (Set x t.now) }
     {
+        if !self.running {
+            return Some(Refusal::Stopped);
+        }
         if !self.holds(x) {
             return Some(Refusal::NoContext);
         }
@@ -148,6 +156,7 @@ impl Content {
             mut contexts,
             mut clock,
             taken,
+            running,
         } = self;
         let epoch = commit(&mut contexts, &mut clock, x, t);
         let parts = Seq::from_vec(vec![in alloc; UpPart::Commit { context: x, change }]?);
@@ -159,6 +168,7 @@ impl Content {
                 contexts,
                 clock,
                 taken,
+                running,
             },
             answer: Answer::Done,
             sent: Some(UpBundle {
@@ -169,13 +179,31 @@ impl Content {
         })
     }
 
-    /// The process takes a bundle.
+    /// The process takes a bundle, also where it doesn't run.
+    #[tactic(auto, using(crate::proofs::Taken::kill_step))]
     pub fn take(self, bundle: DownBundle) -> Result<Moved, OutOfMemory>
-        requires commit { IsCommit bundle.parts }
+        requires part { IsTaken bundle.parts }
         requires counts { Counts self }
         ensures { IfOk result (λ m.
             MovedBy self
             (bundle_step (λ s. s) (seen_after self.process) self.process bundle (seen_of self)) m) }
+    {
+        match bundle.parts.as_slice() {
+            [DownPart::Commit { context, change }] => {
+                self.take_commit(*context, change.get(), bundle.epoch)
+            }
+            [DownPart::Kill] => self.stop(),
+            _ => unreachable!(),
+        }
+    }
+
+    // The process takes a commit, told under an epoch. Others may share it, so that it stays where it is.
+    fn take_commit(self, x: ContextId, change: &Transaction, e: Epoch) -> Result<Moved, OutOfMemory>
+        requires counts { Counts self }
+        ensures { IfOk result (λ m.
+            MovedBy self
+            (bundle_step (λ s. s) (seen_after self.process) self.process
+            (record { epoch = e; parts = Commit x change.now ∷ [] }) (seen_of self)) m) }
     {
         let Content {
             alloc,
@@ -184,9 +212,9 @@ impl Content {
             mut contexts,
             clock,
             taken,
+            running,
         } = self;
-        let (x, change) = commit_of(bundle.parts.as_slice());
-        let note = overlay(alloc, &mut contexts, x, change, bundle.epoch)?;
+        let note = overlay(alloc, &mut contexts, x, change, e)?;
         let notes = Seq::from_vec(vec![in alloc; note]?);
         Ok(Moved {
             core: Content {
@@ -196,6 +224,38 @@ impl Content {
                 contexts,
                 clock,
                 taken: taken + 1,
+                running,
+            },
+            answer: Answer::Parts(notes),
+            sent: None,
+        })
+    }
+
+    // The process takes a bundle that tells it to stop.
+    #[tactic(auto, unfolding(protocol::specs::SeenAfter::seen_after))]
+    fn stop(self) -> Result<Moved, OutOfMemory>
+        requires counts { Counts self }
+        ensures { IfOk result (λ m. MovedBy self (stopped_step self.process (seen_of self)) m) }
+    {
+        let Content {
+            alloc,
+            process,
+            tabs,
+            contexts,
+            clock,
+            taken,
+            ..
+        } = self;
+        let notes = Seq::from_vec(vec![in alloc; PartNote::Kill]?);
+        Ok(Moved {
+            core: Content {
+                alloc,
+                process,
+                tabs,
+                contexts,
+                clock,
+                taken: taken + 1,
+                running: false,
             },
             answer: Answer::Parts(notes),
             sent: None,
@@ -248,11 +308,11 @@ impl Content {
         }
     }
 
-    /// Whether the process runs.
+    /// Whether the process runs. It does until it takes a bundle that tells it to stop.
     pub fn is_running(&self) -> bool
         ensures { result ≡ (seen_of self.now).running }
     {
-        true
+        self.running
     }
 
     /// How many bundles the process took.
@@ -349,17 +409,6 @@ fn commit(contexts: &mut SlabStore, clock: &mut Clock, x: ContextId, t: Transact
     };
     contexts.commit(x, t, Some(epoch));
     epoch
-}
-
-// The commit that a bundle is, by its parts. Others may share them, so that it stays where it is.
-fn commit_of(parts: &[DownPart]) -> (ContextId, &Transaction)
-    requires { IsSome (commit_of parts.now) }
-    ensures { Some (result.0, result.1.now) ≡ commit_of parts.now }
-{
-    match parts {
-        [DownPart::Commit { context, change }] => (*context, change.get()),
-        _ => unreachable!(),
-    }
 }
 
 // Applies what of a commit isn't obsolete at an epoch, and tells what became of it.

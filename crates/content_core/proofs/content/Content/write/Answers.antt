@@ -12,6 +12,6 @@ invariant_of-result c =
 pub returns : goal.returns
 returns c =
     let copied : c.in_ok-t.t ≡ c.args.change = c.in_ok-t.ensures ∙ c.get.ensures in
-    moved-written _ _ c.self.inside.contexts _ _ _ _ c.args.x c.args.change c.commit-epoch.result c.args.self c.from_vec-parts.result c.self.view_is
+    moved-written _ _ c.self.inside.contexts _ _ _ _ _ c.args.x c.args.change c.commit-epoch.result c.args.self c.from_vec-parts.result c.self.view_is
     (c.commit-epoch.ensures.contexts ∙ ap (λ (u : Changes). content_after_change (stored_after_commit u (Some c.commit-epoch.result)) c.args.x c.self.inside.contexts) copied)
     c.commit-epoch.ensures.clock c.commit-epoch.ensures.epoch c.self.invariant c.requires.held (c.from_vec-parts.ensures ∙ c.in_ok-vec.ensures.items)

@@ -1,6 +1,6 @@
--- Sets of fields: what is modified, and what is denied to the parent.
+-- Sets of fields: what is modified, and what is denied.
 use Rattle.std.proofs.Common.{◌≡◌, ◌≢◌, ℕ, zero, suc, ◌<◌, ◌==◌, Bool, true, false, not, ◌&&◌, ◌||◌, None, Some, List, [], ◌∷◌, length, get_or, refl, sym, ap, subst, ◌∙◌, arith, eq-eqb, eqb-true}
-use Rattle.std.specs.Prelude.{is_some, filter, unwrap_or}
+use Rattle.std.specs.Prelude.{is_some, filter}
 use Rattle.std.specs.List.{list_any}
 use Rattle.std.proofs.Math.Path.{fun_ext}
 use Rattle.std.proofs.lemmas.Bool.{false≢true}
@@ -12,17 +12,15 @@ use Rattle.fission_ids.specs.ProcSet.{has as has_process}
 use Rattle.field_table.specs.declared.field.Field.{Field}
 use Rattle.field_table.specs.declared.field.Field.TheVariants.{Name}
 use Rattle.field_table.specs.declared.field_set.FieldSet.{FieldSet}
-use Rattle.field_table.specs.declared.value.Value.TheVariants.{Flag}
 use Rattle.field_table.specs.Field.{fields, number}
 use Rattle.field_table.specs.FieldSet.{has, set_of, number_of_bits}
 use Rattle.field_table.proofs.Tables.{stands, number-at}
 use Rattle.field_table.proofs.FieldSets.{members_set_of}
 use Rattle.transaction.specs.Transaction.{Changes, new_value, modified_in}
-use Rattle.field_rules.specs.Rules.{is_denied}
+use Rattle.wire_msgs.specs.declared.cause.EndCause.TheVariants.{Denied as DeniedEnd}
 use Rattle.wire_msgs.specs.declared.refusal.Refusal.TheVariants.{Denied}
-use Rattle.protocol.specs.Hear.{same_field, set_of_fields, modified_fields}
+use Rattle.protocol.specs.Hear.{denial, same_field, set_of_fields, modified_fields}
 use Rattle.protocol.specs.ParentActs.{denial_refused}
-use Rattle.parent_core.specs.Writes.{question_of_write, denied_in_write}
 
 -- the set without a process
 pub none_in_set : (q : ℕ) → has_process (record { 0 = 0 }) q ≡ false
@@ -105,31 +103,53 @@ set_of_both p t = ap set_of (fun_ext (λ g. sym (
     swap false true = refl
     swap false false = refl
 
+-- a set of some fields isn't empty
+some_in : (f : Field) (flds : List Field) → set_of_fields (f ∷ flds) ≢ no_field
+some_in f flds e =
+    false≢true (sym (has_none f) ∙ ap (λ (s : FieldSet). has s f) (sym e)
+    ∙ members_set_of (set_of_fields (f ∷ flds)) (λ g. list_any (same_field g) (f ∷ flds)) refl f
+    ∙ ap (λ b. b || list_any (same_field f) flds) (eq-eqb (number f) (number f) refl))
+
 denial_none : (flds : List Field) → set_of_fields flds ≡ no_field → denial_refused flds ≡ None
 denial_none [] e = refl
-denial_none (f ∷ flds) e =
-    absurd (false≢true (sym (has_none f) ∙ ap (λ (s : FieldSet). has s f) (sym e)
-    ∙ members_set_of (set_of_fields (f ∷ flds)) (λ g. list_any (same_field g) (f ∷ flds)) refl f
-    ∙ ap (λ b. b || list_any (same_field f) flds) (eq-eqb (number f) (number f) refl)))
+denial_none (f ∷ flds) e = absurd (some_in f flds e)
 
 denial_some : (flds : List Field) → set_of_fields flds ≢ no_field → denial_refused flds ≡ Some (Denied (set_of_fields flds))
 denial_some [] ne = absurd (ne (set_of_none (λ g. false) (λ g. refl)))
 denial_some (f ∷ flds) ne = refl
 
--- whether the parent's write of a field is denied
-abbrev is_denied_at : ContextId → Changes → Field → Bool
-is_denied_at x t f = is_denied (question_of_write x f (unwrap_or (new_value t f) (Flag false)))
+ends_none : (x : ContextId) (flds : List Field) → set_of_fields flds ≡ no_field → denial x flds ≡ None
+ends_none x [] e = refl
+ends_none x (f ∷ flds) e = absurd (some_in f flds e)
 
-module _ (x : ContextId) (t : Changes) (denied : FieldSet) (is : denied ≡ set_of (λ f. is_some (new_value t f) && is_denied_at x t f)) where
-  denied_set : denied ≡ set_of_fields (denied_in_write x t)
-  denied_set = is ∙ set_of_both (is_denied_at x t) t
+ends_some : (x : ContextId) (flds : List Field) → set_of_fields flds ≢ no_field → denial x flds ≡ Some (DeniedEnd x (set_of_fields flds))
+ends_some x [] ne = absurd (ne (set_of_none (λ g. false) (λ g. refl)))
+ends_some x (f ∷ flds) ne = refl
 
-  pub none_denied_by : denied.0 ≡ 0 → None ≡ denial_refused (denied_in_write x t)
-  none_denied_by e =
+module _ (denies : Field → Bool) (t : Changes) (denied : FieldSet) (is : denied ≡ set_of (λ f. is_some (new_value t f) && denies f)) where
+  denied_set : denied ≡ set_of_fields (filter denies (modified_fields t))
+  denied_set = is ∙ set_of_both denies t
+
+  none_in_it : denied.0 ≡ 0 → set_of_fields (filter denies (modified_fields t)) ≡ no_field
+  none_in_it e =
       let made : ℕ → FieldSet = λ n. record { 0 = n } in
-      sym (denial_none (denied_in_write x t) (sym denied_set ∙ ap made e))
+      sym denied_set ∙ ap made e
 
-  pub some_denied_by : denied.0 ≢ 0 → Some (Denied denied) ≡ denial_refused (denied_in_write x t)
-  some_denied_by ne =
+  some_in_it : denied.0 ≢ 0 → set_of_fields (filter denies (modified_fields t)) ≢ no_field
+  some_in_it ne e = ne (ap (λ (s : FieldSet). s.0) (denied_set ∙ e))
+
+  pub none_refused_by : denied.0 ≡ 0 → None ≡ denial_refused (filter denies (modified_fields t))
+  none_refused_by e = sym (denial_none (filter denies (modified_fields t)) (none_in_it e))
+
+  pub some_refused_by : denied.0 ≢ 0 → Some (Denied denied) ≡ denial_refused (filter denies (modified_fields t))
+  some_refused_by ne =
       ap (λ (s : FieldSet). Some (Denied s)) denied_set
-      ∙ sym (denial_some (denied_in_write x t) (λ e. ne (ap (λ (s : FieldSet). s.0) (denied_set ∙ e))))
+      ∙ sym (denial_some (filter denies (modified_fields t)) (some_in_it ne))
+
+  pub none_ended_by : (x : ContextId) → denied.0 ≡ 0 → None ≡ denial x (filter denies (modified_fields t))
+  none_ended_by x e = sym (ends_none x (filter denies (modified_fields t)) (none_in_it e))
+
+  pub some_ended_by : (x : ContextId) → denied.0 ≢ 0 → Some (DeniedEnd x denied) ≡ denial x (filter denies (modified_fields t))
+  some_ended_by x ne =
+      ap (λ (s : FieldSet). Some (DeniedEnd x s)) denied_set
+      ∙ sym (ends_some x (filter denies (modified_fields t)) (some_in_it ne))

@@ -12,24 +12,35 @@ use Rattle.protocol.specs.Sayings.Saying.{Sent}
 use Rattle.protocol.specs.FactsAfter.{facts_after, raised}
 use Rattle.protocol.specs.Bundle.{after_sending, is_no_bundle}
 use Rattle.protocol.specs.Start.{facts_at_start}
+use Rattle.parent_core.specs.Parent.{End, cause_of, owner_left, subscribers_left}
 
 -- the values of the live contexts
 abbrev pub Values : Type 0
 Values = ContextId → Field → Option Value
 
--- the answers with these values and counts, all else being as at the start
-abbrev pub facts_by : List StartTab → Values → (ℕ → ℕ) → (ℕ → ℕ) → Facts
-facts_by tabs value heard sent = record (facts_at_start tabs) {
-  contexts = record (facts_at_start tabs).contexts { value = value };
-  processes = record (facts_at_start tabs).processes { commits_heard = heard; bundles_sent = sent };
+-- the answers with these ends, values and counts, all else being as at the start
+abbrev pub facts_by : List StartTab → List End → Values → (ℕ → ℕ) → (ℕ → ℕ) → Facts
+facts_by tabs ends value heard sent = record (facts_at_start tabs) {
+  contexts = record (facts_at_start tabs).contexts {
+    owner = λ x. owner_left ends ((facts_at_start tabs).contexts.owner x);
+    value = value;
+  };
+  groups = record (facts_at_start tabs).groups {
+    subscribers = λ g. subscribers_left ends ((facts_at_start tabs).groups.subscribers g);
+  };
+  processes = record (facts_at_start tabs).processes {
+    ended = λ p. cause_of p ends;
+    commits_heard = heard;
+    bundles_sent = sent;
+  };
 }
 
-pub same_facts : (tabs : List StartTab) (v w : Values) (h i s t : ℕ → ℕ) → ((x : ContextId) (fld : Field) → v x fld ≡ w x fld)
-    → ((p : ℕ) → h p ≡ i p) → ((p : ℕ) → s p ≡ t p) → facts_by tabs v h s ≡ facts_by tabs w i t
-same_facts tabs v w h i s t values heards sents =
-    ap (λ (u : Values). facts_by tabs u h s) (fun_ext (λ x. fun_ext (values x)))
-    ∙ ap (λ (k : ℕ → ℕ). facts_by tabs w k s) (fun_ext heards)
-    ∙ ap (λ (k : ℕ → ℕ). facts_by tabs w i k) (fun_ext sents)
+pub same_facts : (tabs : List StartTab) (ends : List End) (v w : Values) (h i s t : ℕ → ℕ) → ((x : ContextId) (fld : Field) → v x fld ≡ w x fld)
+    → ((p : ℕ) → h p ≡ i p) → ((p : ℕ) → s p ≡ t p) → facts_by tabs ends v h s ≡ facts_by tabs ends w i t
+same_facts tabs ends v w h i s t values heards sents =
+    ap (λ (u : Values). facts_by tabs ends u h s) (fun_ext (λ x. fun_ext (values x)))
+    ∙ ap (λ (k : ℕ → ℕ). facts_by tabs ends w k s) (fun_ext heards)
+    ∙ ap (λ (k : ℕ → ℕ). facts_by tabs ends w i k) (fun_ext sents)
 
 -- ---- what is counted of one process more
 
@@ -64,27 +75,27 @@ raised_more q n s b = elim (cases_eq q n) [
 abbrev pub sent_behind : ℕ → (ℕ → List DownPart) → (ℕ → ℕ) → ℕ → ℕ
 sent_behind n sends sent p = raised (nat_lt p n && not (is_no_bundle (sends p))) (sent p)
 
-sent_one : (b : Bool) (n : ℕ) (tabs : List StartTab) (v : Values) (h s : ℕ → ℕ)
-    → (if b then facts_by tabs v h s else facts_after (Sent n) (facts_by tabs v h s)) ≡ facts_by tabs v h (λ p. raised (p == n && not b) (s p))
+sent_one : (b : Bool) (n : ℕ) (tabs : List StartTab) (ends : List End) (v : Values) (h s : ℕ → ℕ)
+    → (if b then facts_by tabs ends v h s else facts_after (Sent n) (facts_by tabs ends v h s)) ≡ facts_by tabs ends v h (λ p. raised (p == n && not b) (s p))
 unfolding facts_after
-sent_one true n tabs v h s = same_facts tabs v v h h s (λ p. raised (p == n && false) (s p)) (λ x fld. refl) (λ p. refl) (λ p. by (p == n) (s p))
+sent_one true n tabs ends v h s = same_facts tabs ends v v h h s (λ p. raised (p == n && false) (s p)) (λ x fld. refl) (λ p. refl) (λ p. by (p == n) (s p))
   where
     by : (b : Bool) (k : ℕ) → k ≡ raised (b && false) k
     by true k = refl
     by false k = refl
-sent_one false n tabs v h s = same_facts tabs v v h h (λ p. raised (p == n) (s p)) (λ p. raised (p == n && true) (s p)) (λ x fld. refl) (λ p. refl) (λ p. by (p == n) (s p))
+sent_one false n tabs ends v h s = same_facts tabs ends v v h h (λ p. raised (p == n) (s p)) (λ p. raised (p == n && true) (s p)) (λ x fld. refl) (λ p. refl) (λ p. by (p == n) (s p))
   where
     by : (b : Bool) (k : ℕ) → raised b k ≡ raised (b && true) k
     by true k = refl
     by false k = refl
 
-pub sent_all : (n : ℕ) (sends : ℕ → List DownPart) (tabs : List StartTab) (v : Values) (h s : ℕ → ℕ)
-    → after_sending (λ f. f) facts_after n sends (facts_by tabs v h s) ≡ facts_by tabs v h (sent_behind n sends s)
-sent_all zero sends tabs v h s =
-    same_facts tabs v v h h s (sent_behind 0 sends s) (λ x fld. refl) (λ p. refl)
+pub sent_all : (n : ℕ) (sends : ℕ → List DownPart) (tabs : List StartTab) (ends : List End) (v : Values) (h s : ℕ → ℕ)
+    → after_sending (λ f. f) facts_after n sends (facts_by tabs ends v h s) ≡ facts_by tabs ends v h (sent_behind n sends s)
+sent_all zero sends tabs ends v h s =
+    same_facts tabs ends v v h h s (sent_behind 0 sends s) (λ x fld. refl) (λ p. refl)
     (λ p. let none : 0 ≤ p = omega arith in sym (ap (λ b. raised (b && not (is_no_bundle (sends p))) (s p)) (le-ltb p 0 none)))
-sent_all (suc n) sends tabs v h s =
-    ap (λ f. if is_no_bundle (sends n) then f else facts_after (Sent n) f) (sent_all n sends tabs v h s)
-    ∙ sent_one (is_no_bundle (sends n)) n tabs v h (sent_behind n sends s)
-    ∙ same_facts tabs v v h h (λ p. raised (p == n && not (is_no_bundle (sends n))) (sent_behind n sends s p)) (sent_behind (suc n) sends s) (λ x fld. refl) (λ p. refl)
+sent_all (suc n) sends tabs ends v h s =
+    ap (λ f. if is_no_bundle (sends n) then f else facts_after (Sent n) f) (sent_all n sends tabs ends v h s)
+    ∙ sent_one (is_no_bundle (sends n)) n tabs ends v h (sent_behind n sends s)
+    ∙ same_facts tabs ends v v h h (λ p. raised (p == n && not (is_no_bundle (sends n))) (sent_behind n sends s p)) (sent_behind (suc n) sends s) (λ x fld. refl) (λ p. refl)
     (λ p. raised_more p n (s p) (λ q. is_no_bundle (sends q)))

@@ -7,3 +7,4 @@ mod Rulings
 mod Lists
 mod Kept
 mod Judged
+mod Hearing

@@ -4,54 +4,55 @@ use Rattle.std.specs.Prelude.{is_some}
 use Rattle.std.specs.List.{list_any}
 use Rattle.std.specs.Option.{option_map_or}
 use Rattle.fission_ids.specs.declared.context.ContextId.{ContextId}
+use Rattle.fission_ids.specs.declared.process.ProcId.{ProcId}
 use Rattle.fission_ids.specs.declared.process.ProcSet.{ProcSet}
 use Rattle.fission_ids.specs.ProcSet.{has}
-use Rattle.field_table.specs.declared.field.Field.{Field}
-use Rattle.field_rules.specs.Bounds.{Bounds}
 use Rattle.transaction.specs.Transaction.{Changes}
-use Rattle.wire_msgs.specs.declared.action.ParentAction.TheVariants.{Set}
+use Rattle.wire_msgs.specs.declared.action.ParentAction.{ParentAction}
+use Rattle.wire_msgs.specs.declared.action.ParentAction.TheVariants.{Set, Kill}
 use Rattle.wire_msgs.specs.declared.answer.Answer.TheVariants.{Done, Refused, Parts}
-use Rattle.wire_msgs.specs.declared.bundle.UpBundle.{UpBundle}
+use Rattle.wire_msgs.specs.declared.cause.EndCause.{EndCause}
+use Rattle.wire_msgs.specs.declared.cause.EndCause.TheVariants.{Killed}
 use Rattle.wire_msgs.specs.declared.note.FieldNote.{FieldNote}
 use Rattle.wire_msgs.specs.declared.note.PartNote.TheVariants.{CommitIgnored, Commit as CommitNote}
 use Rattle.wire_msgs.specs.declared.part.DownPart.{DownPart}
-use Rattle.wire_msgs.specs.declared.part.DownPart.TheVariants.{Commit}
-use Rattle.wire_msgs.specs.declared.part.UpPart.TheVariants as ups
+use Rattle.wire_msgs.specs.declared.part.DownPart.TheVariants.{Commit, Kill as DownKill}
 use Rattle.wire_msgs.specs.declared.refusal.Refusal.{Refusal}
-use Rattle.wire_msgs.specs.declared.refusal.Refusal.TheVariants.{NoContext}
+use Rattle.wire_msgs.specs.declared.refusal.Refusal.TheVariants.{NoContext, NoProcess}
 use Rattle.protocol.specs.Questions.{Facts, is_told, is_judged}
-use Rattle.protocol.specs.Sayings.Saying.{Wrote, Counted}
+use Rattle.protocol.specs.Sayings.Saying.{Wrote, Ended}
 use Rattle.protocol.specs.Fold.{behind_all}
 use Rattle.protocol.specs.FactsAfter.{facts_after}
-use Rattle.protocol.specs.Hear.{commit_unless_empty, denied_of, field_notes, values_where, is_noted, is_reverted}
-use Rattle.protocol.specs.Outside.{allowed_in, allowed_of, changes_in}
+use Rattle.protocol.specs.Hear.{commit_unless_empty, values_where, is_noted, is_reverted}
 use Rattle.protocol.specs.Commits.{applied, judged_ruling, ignored_ruling, commit_ruling}
 use Rattle.protocol.specs.Order.{in_order, parts_with_all}
 use Rattle.protocol.specs.ParentActs.{action_ruling, done_ruling, refusal, refused_if, denial_refused, says, answer, posts}
-use Rattle.protocol.specs.Bundle.{Ruling, bundle_ruling}
-use Rattle.protocol.specs.Start.{is_live, numbers}
-use Rattle.protocol.proofs.Judging.{denied_is}
-use Rattle.protocol.proofs.Honest.{IsDue, honest_ruling}
+use Rattle.protocol.specs.Bundle.{Ruling}
+use Rattle.protocol.specs.Start.{is_live}
 use Rattle.parent_core.specs.Parent.{Kept, facts_of}
-use Rattle.parent_core.specs.Ruled.{RuledBy, IsHonest, bundles_of}
-use Rattle.parent_core.specs.Sending.{sent_to}
+use Rattle.parent_core.specs.Ruled.{RuledBy}
+use Rattle.parent_core.specs.Sending.{kill_to, sent_to}
 use Rattle.parent_core.specs.Writes.{denied_in_write, part_to}
 use Rattle.parent_core.specs.declared.sending.Posts.{Posts}
 use Rattle.parent_core.specs.declared.ruled.Ruled.{Ruled}
 use Rattle.parent_core.proofs.Sends.{plain_ruling, ruled_quiet, ruled_alike}
 
--- the rule of a write of the parent
+-- the rule of what the parent does
+abbrev pub act_ruling : Kept → ParentAction → Ruling Facts
+act_ruling k action = action_ruling (λ f. f) facts_after (length k.config.types) action (facts_of k)
+
+-- and of a write
 abbrev pub set_ruling : Kept → ContextId → Changes → Ruling Facts
-set_ruling k x t = action_ruling (λ f. f) facts_after (length k.config.types) (Set x t) (facts_of k)
+set_ruling k x t = act_ruling k (Set x t)
 
--- ---- a write that is refused
+-- ---- an action that is refused
 
-by_refusal : (k : Kept) (x : ContextId) (t : Changes) (why : Refusal) → refusal (facts_of k) (Set x t) ≡ Some why
-    → RuledBy k (set_ruling k x t) (record { core = k; answer = Refused why; sent = [] })
-by_refusal k x t why e =
+by_refusal : (k : Kept) (action : ParentAction) (why : Refusal) → refusal (facts_of k) action ≡ Some why
+    → RuledBy k (act_ruling k action) (record { core = k; answer = Refused why; sent = [] })
+by_refusal k action why e =
     let n = length k.config.types in
-    let rule : plain_ruling n (Refused why) (λ q. []) (facts_of k) ≡ set_ruling k x t =
-    sym (ap (λ (o : Option Refusal). option_map_or (λ w. plain_ruling n (Refused w) (λ q. []) (facts_of k)) o (done_ruling (λ f. f) facts_after n (Set x t) (facts_of k))) e) in
+    let rule : plain_ruling n (Refused why) (λ q. []) (facts_of k) ≡ act_ruling k action =
+    sym (ap (λ (o : Option Refusal). option_map_or (λ w. plain_ruling n (Refused w) (λ q. []) (facts_of k)) o (done_ruling (λ f. f) facts_after n action (facts_of k))) e) in
     subst (λ (r : Ruling Facts). RuledBy k r (record { core = k; answer = Refused why; sent = [] })) rule (ruled_quiet k (Refused why))
 
 refusal_absent : (k : Kept) (x : ContextId) (t : Changes) → is_live k.config.tabs x ≡ false → refusal (facts_of k) (Set x t) ≡ Some NoContext
@@ -64,11 +65,11 @@ refusal_live k x t e = ap (λ b. refused_if (not b) NoContext (denial_refused (d
 
 pub set_absent : (k : Kept) (x : ContextId) (t : Changes) (r : Ruled) → is_live k.config.tabs x ≡ false → r ≡ record { core = k; answer = Refused NoContext; sent = [] }
     → RuledBy k (set_ruling k x t) r
-set_absent k x t r e is = subst (RuledBy k (set_ruling k x t)) (sym is) (by_refusal k x t NoContext (refusal_absent k x t e))
+set_absent k x t r e is = subst (RuledBy k (set_ruling k x t)) (sym is) (by_refusal k (Set x t) NoContext (refusal_absent k x t e))
 
 pub set_denied : (k : Kept) (x : ContextId) (t : Changes) (why : Refusal) (r : Ruled) → is_live k.config.tabs x ≡ true → Some why ≡ denial_refused (denied_in_write x t)
     → r ≡ record { core = k; answer = Refused why; sent = [] } → RuledBy k (set_ruling k x t) r
-set_denied k x t why r e denied is = subst (RuledBy k (set_ruling k x t)) (sym is) (by_refusal k x t why (refusal_live k x t e ∙ sym denied))
+set_denied k x t why r e denied is = subst (RuledBy k (set_ruling k x t)) (sym is) (by_refusal k (Set x t) why (refusal_live k x t e ∙ sym denied))
 
 -- ---- a write that is done
 
@@ -98,6 +99,42 @@ set_done k x t to r live allowed told ruled =
     let rule : plain_ruling n Done (λ q. in_order (posts f (facts_after (Wrote x t) f) (Set x t) q)) (facts_after (Wrote x t) f) ≡ set_ruling k x t =
     sym (ap (λ (o : Option Refusal). option_map_or (λ w. plain_ruling n (Refused w) (λ q. []) f) o (done_ruling (λ g. g) facts_after n (Set x t) f)) (refusal_live k x t live ∙ sym allowed)
     ∙ done_is n x t f) in
+    subst (λ (rl : Ruling Facts). RuledBy k rl r) rule alike
+
+-- ---- a kill
+
+refusal_kill : (k : Kept) (p : ProcId) → refusal (facts_of k) (Kill p) ≡ refused_if (is_some ((facts_of k).processes.ended p.0)) NoProcess None
+unfolding refusal
+refusal_kill k p = refl
+
+pub kill_refused : (k : Kept) (p : ProcId) (cause : EndCause) (r : Ruled) → Some cause ≡ (facts_of k).processes.ended p.0 → r ≡ record { core = k; answer = Refused NoProcess; sent = [] }
+    → RuledBy k (act_ruling k (Kill p)) r
+kill_refused k p cause r e is =
+    subst (RuledBy k (act_ruling k (Kill p))) (sym is)
+    (by_refusal k (Kill p) NoProcess (refusal_kill k p ∙ ap (λ (o : Option EndCause). refused_if (is_some o) NoProcess None) (sym e)))
+
+posts_kill : (f behind : Facts) (p : ProcId) (q : ℕ) → posts f behind (Kill p) q ≡ kill_to p.0 q
+unfolding posts
+posts_kill f behind p q = refl
+
+kill_is : (n : ℕ) (p : ProcId) (f : Facts)
+    → done_ruling (λ g. g) facts_after n (Kill p) f ≡ plain_ruling n Done (λ q. in_order (posts f (facts_after (Ended p.0 Killed) f) (Kill p) q)) (facts_after (Ended p.0 Killed) f)
+unfolding says behind_all answer
+kill_is n p f = refl
+
+pub kill_done : (k : Kept) (p : ProcId) (r : Ruled) → None ≡ (facts_of k).processes.ended p.0
+    → RuledBy k (plain_ruling (length k.config.types) Done (kill_to p.0) (facts_after (Ended p.0 Killed) (facts_of k))) r
+    → RuledBy k (act_ruling k (Kill p)) r
+kill_done k p r runs ruled =
+    let n = length k.config.types in
+    let f = facts_of k in
+    let behind = facts_after (Ended p.0 Killed) f in
+    let alike = ruled_alike k n Done (kill_to p.0) (λ q. in_order (posts f behind (Kill p) q)) behind r refl
+    (λ q lt. in_order_one (q == p.0) DownKill ∙ ap in_order (sym (posts_kill f behind p q))) ruled in
+    let rule : plain_ruling n Done (λ q. in_order (posts f behind (Kill p) q)) behind ≡ act_ruling k (Kill p) =
+    sym (ap (λ (o : Option Refusal). option_map_or (λ w. plain_ruling n (Refused w) (λ q. []) f) o (done_ruling (λ g. g) facts_after n (Kill p) f))
+    (refusal_kill k p ∙ ap (λ (o : Option EndCause). refused_if (is_some o) NoProcess None) (sym runs))
+    ∙ kill_is n p f) in
     subst (λ (rl : Ruling Facts). RuledBy k rl r) rule alike
 
 -- what is sent to a set alone
@@ -170,41 +207,3 @@ ruled_unjudged k p x t ns r e ruled =
     let n = length k.config.types in
     subst (λ (rl : Ruling Facts). RuledBy k rl r)
     (sym (ap (λ b. if b then judged_ruling (λ f. f) facts_after n p x t ns (facts_of k) else ignored_ruling (λ f. f) facts_after n x (facts_of k)) e)) ruled
-
--- the count of a commit denies nothing
-still_allowed : (answers : Field → Bool) (k : Kept) (p : ℕ) (x : ContextId) (t : Changes) → denied_of (λ fld. false) (facts_of k) p x t ≡ [] → denied_of answers (facts_after (Counted p) (facts_of k)) p x t ≡ []
-unfolding facts_after
-still_allowed answers k p x t allowed =
-    denied_is answers (facts_after (Counted p) (facts_of k)) p x t ∙ sym (denied_is (λ fld. false) (facts_of k) p x t) ∙ allowed
-
-is_due : (k : Kept) (p : ℕ) (x : ContextId) (t : Changes) (b : UpBundle) → IsHonest (facts_of k) p b → b.parts ≡ ups.Commit x t ∷ [] → IsDue (facts_of k) p x t b
-is_due k p x t b honest parts = record { runs = refl; parts = parts; epoch = honest.epoch; seen = honest.seen }
-
-allowed_commit : (k : Kept) (p : ℕ) (x : ContextId) (t : Changes) (b : UpBundle) → IsHonest (facts_of k) p b → b.parts ≡ ups.Commit x t ∷ [] → denied_of (λ fld. false) (facts_of k) p x t ≡ []
-allowed_commit k p x t b honest parts =
-    let same : honest.changes ≡ t = cc (honest.parts, parts) in
-    let here : honest.context ≡ x = cc (honest.parts, parts) in
-    ap₂ (λ (y : ContextId) (u : Changes). denied_of (λ fld. false) (facts_of k) p y u) (sym here) (sym same) ∙ honest.allowed
-
--- an honest bundle, by its one commit behind the count of it
-pub ruled_heard : (bounds : Bounds) (before counted : Kept) (p : ℕ) (x : ContextId) (t : Changes) (b : UpBundle) (r : Ruled) → IsHonest (facts_of before) p b → b.parts ≡ ups.Commit x t ∷ []
-    → counted.config ≡ before.config → facts_of counted ≡ facts_after (Counted p) (facts_of before)
-    → RuledBy counted (heard_ruling counted p x t (field_notes (allowed_in bounds t) (facts_of counted) p x t)) r
-    → RuledBy before (bundle_ruling (λ f. f) facts_after (length before.config.types) (allowed_of bounds b) p b (facts_of before)) r
-ruled_heard bounds before counted p x t b r honest parts config facts ruled =
-    let n = length before.config.types in
-    let rule_of : Ruling Facts = bundle_ruling (λ f. f) facts_after n (allowed_of bounds b) p b (facts_of before) in
-    let len : length counted.config.types ≡ n = ap (λ c. length c.types) config in
-    let asked : allowed_of bounds b ≡ allowed_in bounds t = ap (λ ps. allowed_in bounds (changes_in ps)) parts in
-    let rule : heard_ruling counted p x t (field_notes (allowed_in bounds t) (facts_of counted) p x t) ≡ rule_of =
-    ap₂ (λ m f. commit_ruling (λ g. g) facts_after m p x t (field_notes (allowed_in bounds t) f p x t) f) len facts
-    ∙ sym (honest_ruling (λ f. f) facts_after n (allowed_in bounds t) p x t b (facts_of before) (is_due before p x t b honest parts)
-    (still_allowed (allowed_in bounds t) before p x t (allowed_commit before p x t b honest parts)))
-    ∙ ap (λ (answers : Field → Bool). bundle_ruling (λ f. f) facts_after n answers p b (facts_of before)) (sym asked) in
-    let moved : RuledBy counted rule_of r = subst (λ (rl : Ruling Facts). RuledBy counted rl r) rule ruled in
-    record {
-      config = moved.config ∙ config;
-      facts = moved.facts;
-      answer = moved.answer;
-      sent = moved.sent ∙ ap (λ m. bundles_of rule_of (numbers 0 m)) len;
-    }

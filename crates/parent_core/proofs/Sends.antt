@@ -1,5 +1,5 @@
 -- What is sent: rulings that send alike, and the bundles of one part.
-use Rattle.std.proofs.Common.{◌≡◌, ℕ, zero, suc, ◌+◌, ◌-◌, ◌<◌, ◌≤◌, Bool, true, false, not, ◌||◌, if◌then◌else◌, List, [], ◌∷◌, ◌++◌, length, refl, sym, ap, ap₂, ◌∙◌, arith}
+use Rattle.std.proofs.Common.{◌≡◌, ℕ, zero, suc, ◌+◌, ◌-◌, ◌<◌, ◌≤◌, ◌==◌, Bool, true, false, not, ◌||◌, if◌then◌else◌, List, [], ◌∷◌, ◌++◌, length, refl, sym, ap, ap₂, ◌∙◌, arith}
 use Rattle.std.proofs.Common.{append_assoc}
 use Rattle.std.proofs.lemmas.List.{append-nil}
 use Rattle.fission_ids.specs.declared.process.ProcId.{ProcId}
@@ -7,6 +7,7 @@ use Rattle.fission_ids.specs.ProcSet.{has}
 use Rattle.wire_msgs.specs.declared.answer.Answer.{Answer}
 use Rattle.wire_msgs.specs.declared.bundle.DownBundle.{DownBundle}
 use Rattle.wire_msgs.specs.declared.part.DownPart.{DownPart}
+use Rattle.wire_msgs.specs.declared.part.DownPart.TheVariants.{Kill}
 use Rattle.protocol.specs.Questions.{Facts}
 use Rattle.protocol.specs.Sayings.Saying.{Sent}
 use Rattle.protocol.specs.FactsAfter.{facts_after}
@@ -14,7 +15,7 @@ use Rattle.protocol.specs.Bundle.{Ruling, after_sending, is_no_bundle, ruling, b
 use Rattle.protocol.specs.Start.{numbers}
 use Rattle.parent_core.specs.Parent.{Kept, facts_of}
 use Rattle.parent_core.specs.Ruled.{RuledBy, addressed, bundles_of}
-use Rattle.parent_core.specs.Sending.{bundle_with, bundles_to, HaveParts, is_sent_to, sent_to}
+use Rattle.parent_core.specs.Sending.{bundle_with, bundles_to, HaveParts, is_sent_to, kill_to, sent_to}
 use Rattle.parent_core.specs.declared.sending.Posts.{Posts}
 use Rattle.parent_core.specs.declared.ruled.Ruled.{Ruled}
 
@@ -184,3 +185,8 @@ one_for posts q heard ds sent new have told is e =
     not_not : (b : Bool) → not b ≡ true → b ≡ false
     not_not true n = absurd (cc)
     not_not false n = refl
+
+-- what is sent to one process alone
+pub kill_sent : (posts : Posts) (p q : ℕ) → has posts.back_to q ≡ false → has posts.to q ≡ (q == p) → posts.parts ≡ Kill ∷ [] → sent_to posts q ≡ kill_to p q
+kill_sent posts p q none to parts =
+    ap₂ (λ (b c : Bool). if b then posts.back else if c then posts.parts else []) none to ∙ ap (λ (ds : List DownPart). if q == p then ds else []) parts

@@ -10,7 +10,7 @@ use Rattle.wire_msgs.specs.declared.config.Config.{Config}
 use Rattle.wire_msgs.specs.declared.config.StartTab.{StartTab}
 use Rattle.protocol.specs.Questions.{is_told, option_any}
 use Rattle.protocol.specs.Start.{nth_context, tab_of, processes_of_tab}
-use Rattle.parent_core.specs.Parent.{Kept, facts_of}
+use Rattle.parent_core.specs.Parent.{Kept, facts_of, subscribers_left}
 
 -- the tab of a context is that of its group
 tab_nth : (tabs : List StartTab) (x : ContextId) (tab : StartTab) → tab_of tabs x ≡ Some tab → tab_of tabs (nth_context x.serial) ≡ Some tab
@@ -20,12 +20,12 @@ tab_nth tabs x tab = by (x.creator == 0)
     by true e = e
     by false e = absurd (cc)
 
--- those who have the tab of a context are told of it
-pub told_at : (k : Kept) (x : ContextId) (tab : StartTab) → tab_of k.config.tabs x ≡ Some tab → (q : ℕ) → has (processes_of_tab tab) q ≡ is_told (facts_of k) q x
+-- those who have the tab of a context and weren't ended are told of it
+pub told_at : (k : Kept) (x : ContextId) (tab : StartTab) → tab_of k.config.tabs x ≡ Some tab → (q : ℕ) → has (subscribers_left k.ends (processes_of_tab tab)) q ≡ is_told (facts_of k) q x
 told_at k x tab e q =
     let group : StartTab → GroupId = λ t. record { 0 = x.serial } in
-    sym (ap (λ (o : Option StartTab). option_any (λ (g : GroupId). has (option_map_or processes_of_tab (tab_of k.config.tabs (nth_context g.0)) (record { 0 = 0 })) q) (option_map group o)) e
-    ∙ ap (λ (o : Option StartTab). has (option_map_or processes_of_tab o (record { 0 = 0 })) q) (tab_nth k.config.tabs x tab e))
+    sym (ap (λ (o : Option StartTab). option_any (λ (g : GroupId). has (subscribers_left k.ends (option_map_or processes_of_tab (tab_of k.config.tabs (nth_context g.0)) (record { 0 = 0 }))) q) (option_map group o)) e
+    ∙ ap (λ (o : Option StartTab). has (subscribers_left k.ends (option_map_or processes_of_tab o (record { 0 = 0 }))) q) (tab_nth k.config.tabs x tab e))
 
 fits_at : {X : Type 0} (P : X → Type 0) (xs : List X) (i : ℕ) (x : X) → AllByRecursion P xs → slice_get xs i ≡ Some x → P x
 fits_at P [] i x all e = absurd (cc)

@@ -3,4 +3,5 @@ pub mod Ruled
 pub mod Codes
 pub mod Sending
 pub mod Writes
+pub mod Faults
 pub mod Contents

@@ -1,14 +1,9 @@
 -- What a call of the parent gives: the rule's answer, what it answers behind it, and what it sends.
-use Rattle.std.specs.Prelude.{◌≡◌, ℕ, ◌+◌, ◌-◌, ◌^◌, ◌<◌, ◌≤◌, List, [], ◌∷◌, ◌++◌, length}
-use Rattle.std.specs.Prelude.{Option, None, Some, false}
-use Rattle.fission_ids.specs.declared.context.ContextId.{ContextId}
+use Rattle.std.specs.Prelude.{◌≡◌, ℕ, ◌-◌, ◌^◌, ◌<◌, List, [], ◌∷◌, ◌++◌, length}
+use Rattle.std.specs.Prelude.{Option, None, Some}
 use Rattle.fission_ids.specs.declared.process.ProcId.{ProcId}
-use Rattle.transaction.specs.Transaction.{Changes}
 use Rattle.wire_msgs.specs.declared.bundle.DownBundle.{DownBundle}
-use Rattle.wire_msgs.specs.declared.bundle.UpBundle.{UpBundle}
-use Rattle.wire_msgs.specs.declared.part.UpPart.TheVariants.{Commit}
 use Rattle.protocol.specs.Questions.{Facts}
-use Rattle.protocol.specs.Hear.{denied_of}
 use Rattle.protocol.specs.Bundle.{Ruling, bundle_for}
 use Rattle.protocol.specs.Start.{numbers}
 use Rattle.parent_core.specs.Parent.{Kept, facts_of, counted_of}
@@ -35,13 +30,3 @@ pub record RuledBy (before : Kept) (rule : Ruling Facts) (ruled : Ruled) : Type 
 pub record Counts (k : Kept) : Type 0 where
   pub heard : (p : ℕ) → (counted_of p k.processes).heard < 2 ^ 64 - 1
   pub sent : (p : ℕ) → (counted_of p k.processes).sent < 2 ^ 64 - 1
-
--- so far a bundle that is heard is one commit of which nothing is denied, and its epoch and its stamp are in
--- order
-pub record IsHonest (f : Facts) (p : ℕ) (b : UpBundle) : Type 0 where
-  pub context : ContextId
-  pub changes : Changes
-  pub parts : b.parts ≡ Commit context changes ∷ []
-  pub allowed : denied_of (λ fld. false) f p context changes ≡ []
-  pub epoch : b.epoch.0 ≡ f.processes.commits_heard p + 1
-  pub seen : b.seen ≤ f.processes.bundles_sent p

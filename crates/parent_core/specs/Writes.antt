@@ -1,7 +1,8 @@
 -- Writes to a top-level context: those that are heard, and those of the parent.
 use Rattle.std.specs.Prelude.{◌≡◌, ℕ, Bool, true, false, ◌&&◌, if◌then◌else◌, List, [], ◌∷◌, map, filter}
-use Rattle.std.specs.Prelude.{None, Some, is_some, unwrap_or}
+use Rattle.std.specs.Prelude.{Option, None, Some, is_some, unwrap_or}
 use Rattle.fission_ids.specs.declared.context.ContextId.{ContextId}
+use Rattle.fission_ids.specs.declared.process.ProcId.{ProcId}
 use Rattle.fission_ids.specs.declared.process.ProcSet.{ProcSet}
 use Rattle.fission_ids.specs.ProcSet.{has as is_in}
 use Rattle.field_table.specs.declared.field.Field.{Field}
@@ -25,17 +26,21 @@ pub record IsOneCommit (parts : List UpPart) : Type 0 where
   pub changes : Changes
   pub is : parts ≡ Commit context changes ∷ []
 
--- what is asked of the write of a field by process p, which owns the context or not
-abbrev pub question_of_heard : ℕ → ContextId → Bool → Field → Value → Question
-question_of_heard p x owns fld v = record {
+-- what is asked of the write of a field by a process, which owns the context or not, or by the parent
+abbrev pub question_from : Option ProcId → ContextId → Bool → Field → Value → Question
+question_from from x owns fld v = record {
   field = fld;
   value = v;
   context = x;
   top = true;
   window = None;
-  from = Some (record { 0 = p });
+  from = from;
   owner_is_sender = owns;
 }
+
+-- by process p
+abbrev pub question_of_heard : ℕ → ContextId → Bool → Field → Value → Question
+question_of_heard p = question_from (Some (record { 0 = p }))
 
 -- whether a field that is modified is reverted, by the bounds of the rule functions
 abbrev pub is_reverted_in : Bounds → ℕ → ContextId → Bool → Changes → Field → Bool
@@ -50,23 +55,18 @@ notes_with reverted t = map
     (λ fld. record { field = fld; mark = if has reverted fld then Reverted else Applied })
     (modified_fields t)
 
--- what is asked of the parent's write of a field
-abbrev pub question_of_write : ContextId → Field → Value → Question
-question_of_write x fld v = record {
-  field = fld;
-  value = v;
-  context = x;
-  top = true;
-  window = None;
-  from = None;
-  owner_is_sender = false;
-}
+-- whether the new value of a field may not be written so
+abbrev pub is_denied_from : Option ProcId → ContextId → Bool → Changes → Field → Bool
+is_denied_from from x owns t fld =
+    is_denied (question_from from x owns fld (unwrap_or (new_value t fld) (Flag false)))
 
--- the modified fields that the parent may not write so
+-- the modified fields that may not be written so
+abbrev pub denied_from : Option ProcId → ContextId → Bool → Changes → List Field
+denied_from from x owns t = filter (is_denied_from from x owns t) (modified_fields t)
+
+-- those that the parent may not write so
 abbrev pub denied_in_write : ContextId → Changes → List Field
-denied_in_write x t =
-    filter (λ fld. is_denied (question_of_write x fld (unwrap_or (new_value t fld) (Flag false))))
-    (modified_fields t)
+denied_in_write x = denied_from None x false
 
 -- a part for the processes of a set
 abbrev pub part_to : ProcSet → DownPart → ℕ → List DownPart

@@ -4,6 +4,7 @@
 #![tactic(auto)]
 
 mod contents;
+mod ending;
 mod parent;
 mod process;
 mod ruled;

@@ -6,17 +6,18 @@ ghost use Rattle.fission_ids.specs.ProcSet.{has};
 ghost use Rattle.wire_msgs.specs.Config.{ConfigFits};
 ghost use Rattle.wire_msgs.specs.declared.action.ParentAction.TheVariants as actions;
 ghost use Rattle.wire_msgs.specs.declared.part.DownPart.TheVariants as downs;
-ghost use Rattle.protocol.specs.Questions.{is_told, is_owner};
-ghost use Rattle.protocol.specs.Sayings.Saying.{Counted, Wrote};
+ghost use Rattle.protocol.specs.Questions.{is_judged, is_told, is_owner};
+ghost use Rattle.protocol.specs.Sayings.Saying.{Counted, Ended, Wrote};
 ghost use Rattle.protocol.specs.Start.{facts_at_start, is_live, numbers};
 ghost use Rattle.protocol.specs.FactsAfter.{facts_after};
 ghost use Rattle.protocol.specs.ParentActs.{action_ruling};
-ghost use Rattle.protocol.specs.Bundle.{after_sending, bundle_ruling, ruling};
+ghost use Rattle.protocol.specs.Bundle.{after_sending, bundle_ruling, end_parts, end_ruling, ruling};
 ghost use Rattle.parent_core.specs.Parent.{facts_of, IsPlayed};
-ghost use Rattle.parent_core.specs.Ruled.{RuledBy, Counts, IsHonest};
-ghost use Rattle.parent_core.specs.Sending.{bundles_to, HaveParts, sent_to};
+ghost use Rattle.parent_core.specs.Ruled.{RuledBy, Counts};
+ghost use Rattle.parent_core.specs.Sending.{bundles_to, HaveParts, kill_to, sent_to};
 ghost use Rattle.parent_core.specs.Writes.{part_to};
-ghost use Rattle.protocol.specs.Commits.{commit_ruling, judged_ruling};
+ghost use Rattle.parent_core.specs.Faults.{fault_in_bundle, fault_in_parts, fault_in_commit};
+ghost use Rattle.protocol.specs.Commits.{AreCommits, commit_ruling, judged_ruling};
 ghost use Rattle.protocol.specs.Hear.{field_notes};
 ghost use Rattle.protocol.specs.Outside.{allowed_in, allowed_of};
 ghost use Rattle.field_rules.specs.RuleBounds.{bounds_of};
@@ -25,13 +26,15 @@ ghost use Rattle.field_table.specs.FieldSet.{has as has_field};
 ghost use Rattle.wire_msgs.specs.declared.note.PartNote.TheVariants as notes;
 
 use crate::contents::commit_to;
-use crate::process::{Process, count_sent, record_epoch};
+use crate::ending::{ProcessEnd, cause_of, owner_left, subscribers_left};
+use crate::process::{Process, bundles_sent, count_sent, due, record_epoch};
 use crate::ruled::Ruled;
-use crate::sending::{Posts, bundles, commit_part};
+use crate::sending::{Posts, bundles, commit_part, kill_for};
 use crate::starting::{contexts_of, start_processes};
 use crate::tabs::tab_of;
 use crate::writes::{
-    commit_in, denial, is_empty, judged_answer, reverted_fields, values_of, without,
+    commit_in, commit_of, denial, denial_heard, is_empty, judged_answer, reverted_fields,
+    values_of, without,
 };
 use context_store::{SlabStore, Store};
 use field_rules::Rules;
@@ -40,10 +43,12 @@ use fission_ids::{ContextId, Duplicate, Epoch, GroupId, OutOfMemory, ProcId, Pro
 use std::alloc::Global;
 use std::marker::Model;
 use transaction::Transaction;
-use wire_msgs::{Answer, Config, DownBundle, ParentAction, PartNote, Refusal, UpBundle};
+use wire_msgs::{
+    Answer, Config, DownBundle, EndCause, ParentAction, PartNote, Refusal, UpBundle, UpPart,
+};
 
-/// The parent, seen as what it keeps: its configuration, the live contexts with their fields, and the counts
-/// of each process.
+/// The parent, seen as what it keeps: its configuration, the live contexts with their fields, the counts of
+/// each process, and the processes that were ended.
 #[derive(Debug, Drop)]
 pub struct Parent {
     alloc: Global,
@@ -51,6 +56,8 @@ pub struct Parent {
     contexts: SlabStore,
     // By the numbers of the processes.
     processes: Vec<Process>,
+    // The newest first. Each process ends once, so that they are at most sixteen.
+    ends: Vec<ProcessEnd>,
 }
 
 impl Model for Parent {
@@ -65,12 +72,14 @@ impl Model for Parent {
       config = p.config;
       contexts = p.contexts;
       processes = p.processes.items;
+      ends = p.ends.items;
     } };
 
     ghost invariant = { λ p. HoldsAll (record {
       config = p.config;
       contexts = p.contexts;
       processes = p.processes.items;
+      ends = p.ends.items;
     }) };
 }
 
@@ -89,6 +98,7 @@ impl Parent {
             config,
             contexts,
             processes,
+            ends: Vec::new(alloc),
         })
     }
 
@@ -108,31 +118,39 @@ impl Parent {
 
     /// The parent acts of its own accord.
     pub fn act(self, action: ParentAction) -> Result<Ruled, OutOfMemory>
-        requires action { IsPlayed action }
+        requires action { IsPlayed (length self.config.types) action }
         requires counts { Counts self }
         ensures { IfOk result (λ r. RuledBy self
             (action_ruling (λ f. f) facts_after (length self.config.types) action (facts_of self)) r) }
     {
         match action {
             ParentAction::Set { context, fields } => self.set(context, fields.into_inner()),
+            ParentAction::Kill { process } => self.kill(process),
             _ => unreachable!(),
         }
     }
 
-    /// The parent hears a bundle of process p, and judges it by the rules.
+    /// The parent hears a bundle of process p, and judges it by the rules. A bundle that may not be sent so
+    /// ends its sender, and nothing of it is done; one of a process that was ended is ignored.
     pub fn hear(self, rules: &Rules, p: ProcId, bundle: UpBundle) -> Result<Ruled, OutOfMemory>
         requires process { p.0 < length self.config.types }
-        requires honest { IsHonest (facts_of self) p.0 bundle }
+        requires parts { AreCommits bundle.parts }
         requires counts { Counts self }
         ensures { IfOk result (λ r. RuledBy self
             (bundle_ruling (λ f. f) facts_after (length self.config.types)
             (allowed_of (bounds_of rules.now) bundle) p.0 bundle (facts_of self)) r) }
     {
-        let UpBundle { epoch, parts, .. } = bundle;
-        let (context, change) = commit_in(parts);
-        let mut core = self;
-        core.record(p, epoch);
-        core.judge(rules, p, context, change)
+        match self.end_cause(p) {
+            Some(_) => Ok(self.ignore_bundle()),
+            None => self.hear_running(rules, p, bundle),
+        }
+    }
+
+    /// Why a process was ended. None exactly where it wasn't.
+    pub fn end_cause(&self, p: ProcId) -> Option<EndCause>
+        ensures { result ≡ (facts_of self.now).processes.ended p.0 }
+    {
+        cause_of(p, self.ends.as_slice())
     }
 
     /// What the parent shows of a field. None exactly where the context isn't live.
@@ -145,11 +163,12 @@ impl Parent {
         }
     }
 
-    /// The process that owns a context. None where nobody does, or the context isn't live.
+    /// The process that owns a context. None where its owner was ended, or the context isn't live.
     pub fn owner(&self, x: ContextId) -> Option<ProcId>
         ensures { option_map (λ p. p.0) result ≡ (facts_of self.now).contexts.owner x }
     {
-        tab_of(self.config.tabs.as_slice(), x).map(|tab| tab.owner)
+        let owner = tab_of(self.config.tabs.as_slice(), x).map(|tab| tab.owner);
+        owner_left(self.ends.as_slice(), owner)
     }
 
     /// The group of a context. None exactly where the context isn't live.
@@ -178,7 +197,7 @@ impl Parent {
     {
         match tab_of(self.config.tabs.as_slice(), x) {
             None => None,
-            Some(tab) => Some(tab.also.with(tab.owner)),
+            Some(tab) => Some(subscribers_left(self.ends.as_slice(), tab.also.with(tab.owner))),
         }
     }
 
@@ -238,6 +257,143 @@ impl Parent {
             back_to: ProcSet::EMPTY,
         };
         self.write(x, t, &posts, Answer::Done)
+    }
+
+    // The parent kills a process, unless that was ended.
+    fn kill(self, p: ProcId) -> Result<Ruled, OutOfMemory>
+        requires process { p.0 < length self.config.types }
+        requires counts { Counts self }
+        ensures { IfOk result (λ r. RuledBy self
+            (action_ruling (λ f. f) facts_after (length self.config.types) (actions.Kill p)
+            (facts_of self)) r) }
+    {
+        match self.end_cause(p) {
+            Some(_) => Ok(self.refuse(Refusal::NoProcess)),
+            None => self.end(p, EndCause::Killed, Answer::Done),
+        }
+    }
+
+    // A bundle changes and sends nothing.
+    fn ignore_bundle(self) -> Ruled
+        ensures { result ≡ record { core = self; answer = Answer.Ignored; sent = [] } }
+    {
+        let sent = Seq::new(self.alloc());
+        Ruled {
+            core: self,
+            answer: Answer::Ignored,
+            sent,
+        }
+    }
+
+    // A bundle of a process that wasn't ended is judged. Its epoch is recorded where it is the one that is
+    // due, whatever else is wrong with the bundle.
+    fn hear_running(self, rules: &Rules, p: ProcId, bundle: UpBundle) -> Result<Ruled, OutOfMemory>
+        requires process { p.0 < length self.config.types }
+        requires parts { AreCommits bundle.parts }
+        requires counts { Counts self }
+        requires runs { (facts_of self).processes.ended p.0 ≡ None }
+        ensures { IfOk result (λ r. RuledBy self
+            (bundle_ruling (λ f. f) facts_after (length self.config.types)
+            (allowed_of (bounds_of rules.now) bundle) p.0 bundle (facts_of self)) r) }
+    {
+        let UpBundle { epoch, seen, parts } = bundle;
+        let due = self.due(p);
+        if epoch != due {
+            return self.end_sender(p, EndCause::BadEpoch { said: epoch, due });
+        }
+        let mut core = self;
+        core.record(p, epoch);
+        match core.fault(p, seen, &parts) {
+            Some(cause) => core.end_sender(p, cause),
+            None => {
+                let (context, change) = commit_in(parts);
+                core.judge(rules, p, context, change)
+            }
+        }
+    }
+
+    // The epoch that is due of a commit of process p.
+    fn due(&self, p: ProcId) -> Epoch
+        requires process { p.0 < length self.now.config.types }
+        requires count { (facts_of self.now).processes.commits_heard p.0 < 2 ^ 64 - 1 }
+        ensures { result.0 ≡ (facts_of self.now).processes.commits_heard p.0 + 1 }
+    {
+        due(p, self.processes.as_slice())
+    }
+
+    // Why a bundle of commits ends process p, behind the count of one, if it does.
+    fn fault(&self, p: ProcId, seen: u64, parts: &Seq<UpPart>) -> Option<EndCause>
+        requires { p.0 < length self.now.config.types }
+        ensures { result ≡ fault_in_bundle (facts_of self.now) p.0 seen parts.now }
+    {
+        let sent = bundles_sent(p, self.processes.as_slice());
+        if seen > sent {
+            Some(EndCause::BadStamp { said: seen, sent })
+        } else {
+            self.fault_in_parts(p, parts.as_slice())
+        }
+    }
+
+    // Why the parts of such a bundle end it, if they do.
+    fn fault_in_parts(&self, p: ProcId, parts: &[UpPart]) -> Option<EndCause>
+        requires { p.0 < length self.now.config.types }
+        ensures { result ≡ fault_in_parts (facts_of self.now) p.0 parts.now }
+    {
+        match commit_of(parts) {
+            Some((context, change)) => self.fault_in_commit(p, context, change),
+            None => Some(EndCause::BadPart { number: 2 }),
+        }
+    }
+
+    // Why the one commit of such a bundle ends it, if it does.
+    fn fault_in_commit(&self, p: ProcId, x: ContextId, t: &Transaction) -> Option<EndCause>
+        requires { p.0 < length self.now.config.types }
+        ensures { result ≡ fault_in_commit (facts_of self.now) p.0 x t.now }
+    {
+        if self.is_judged(p, x) {
+            denial_heard(p, x, self.is_owner(p, x), t)
+        } else {
+            None
+        }
+    }
+
+    // Whether a commit of process p to a context is judged.
+    fn is_judged(&self, p: ProcId, x: ContextId) -> bool
+        requires { p.0 < length self.now.config.types }
+        ensures { result ≡ is_judged (facts_of self.now) p.0 x }
+    {
+        self.has_few_processes();
+        match self.subscribers(x) {
+            None => false,
+            Some(all) => all.has(p),
+        }
+    }
+
+    // Process p is ended for what it sent.
+    fn end_sender(self, p: ProcId, cause: EndCause) -> Result<Ruled, OutOfMemory>
+        requires process { p.0 < length self.config.types }
+        requires counts { (q : ℕ) → (facts_of self).processes.bundles_sent q < 2 ^ 64 - 1 }
+        requires kills { end_parts cause ≡ downs.Kill ∷ [] }
+        ensures { IfOk result (λ r. RuledBy self
+            (end_ruling (λ f. f) facts_after (length self.config.types) p.0 cause (facts_of self)) r) }
+    {
+        self.end(p, cause, Answer::Ended(cause))
+    }
+
+    // Process p is ended, and is sent a Kill.
+    fn end(self, p: ProcId, cause: EndCause, answer: Answer) -> Result<Ruled, OutOfMemory>
+        requires process { p.0 < length self.config.types }
+        requires counts { (q : ℕ) → (facts_of self).processes.bundles_sent q < 2 ^ 64 - 1 }
+        ensures { IfOk result (λ r. RuledBy self
+            (ruling (λ f. f) facts_after (length self.config.types) answer (kill_to p.0)
+            (facts_after (Ended p.0 cause) (facts_of self))) r) }
+    {
+        self.has_few_processes();
+        let posts = kill_for(self.alloc(), p)?;
+        let mut core = self;
+        core.note_end(p, cause)?;
+        let sent = core.send_out(&posts)?;
+        Ok(Ruled { core, answer, sent })
     }
 
     // A commit of process p is done as the rules judge it where it is judged, else ignored.
@@ -325,9 +481,9 @@ impl Parent {
     fn is_owner(&self, p: ProcId, x: ContextId) -> bool
         ensures { result ≡ is_owner (facts_of self.now) p.0 x }
     {
-        match tab_of(self.config.tabs.as_slice(), x) {
+        match self.owner(x) {
             None => false,
-            Some(tab) => tab.owner == p,
+            Some(owner) => owner == p,
         }
     }
 
@@ -387,6 +543,17 @@ impl Parent {
         ensures facts { facts_of self.new ≡ facts_after (Wrote x t) (facts_of self.old) }
     {
         commit_to(&mut self.contexts, x, t);
+    }
+
+    // Process p is ended for good.
+    fn note_end(&mut self, p: ProcId, cause: EndCause) -> Result<(), OutOfMemory>
+        requires { p.0 < length self.old.config.types }
+        ensures config { OnOk result (self.new.config ≡ self.old.config) }
+        ensures facts { OnOk result
+            (facts_of self.new ≡ facts_after (Ended p.0 cause) (facts_of self.old)) }
+    {
+        self.ends.insert(0, ProcessEnd::new(p, cause))?;
+        Ok(())
     }
 
     // The bundles that are sent, which are counted.

@@ -45,6 +45,13 @@ impl Process {
         self.heard.last()
     }
 
+    /// How many bundles were sent to it.
+    pub(crate) fn bundles_sent(&self) -> u64
+        ensures { result ≡ self.now.sent }
+    {
+        self.sent
+    }
+
     /// Records the epoch of a commit, which is the one that is due.
     pub(crate) fn hear(&mut self, e: Epoch)
         requires due { e.0 ≡ self.old.heard + 1 }
@@ -92,4 +99,21 @@ pub(crate) fn record_epoch(p: ProcId, e: Epoch, processes: &mut [Process])
         counted_of q processes.new ≡ heard_after (q == p.0) (counted_of q processes.old) }
 {
     processes[p.0 as usize].hear(e);
+}
+
+/// The epoch that is due of a commit of process p.
+pub(crate) fn due(p: ProcId, processes: &[Process]) -> Epoch
+    requires process { p.0 < length processes.now }
+    requires count { (counted_of p.0 processes.now).heard < 2 ^ 64 - 1 }
+    ensures { result.0 ≡ (counted_of p.0 processes.now).heard + 1 }
+{
+    Epoch(processes[p.0 as usize].epoch().0 + 1)
+}
+
+/// How many bundles were sent to process p.
+pub(crate) fn bundles_sent(p: ProcId, processes: &[Process]) -> u64
+    requires { p.0 < length processes.now }
+    ensures { result ≡ (counted_of p.0 processes.now).sent }
+{
+    processes[p.0 as usize].bundles_sent()
 }

@@ -1,9 +1,12 @@
-ghost use Rattle.std.specs.Prelude.{◌≡◌, ◌<◌, [], ◌∷◌, ◌++◌, length, true, false, IfOk, OnOk, MatchOption};
+ghost use Rattle.std.specs.Prelude.{◌≡◌, ℕ, ◌<◌, ◌==◌, [], ◌∷◌, ◌++◌, length, true, false};
+ghost use Rattle.std.specs.Prelude.{IfOk, OnOk, MatchOption};
+ghost use Rattle.fission_ids.specs.ProcSet.{has};
 ghost use Rattle.protocol.specs.Start.{numbers};
 ghost use Rattle.wire_msgs.specs.declared.part.DownPart.TheVariants as downs;
 ghost use Rattle.parent_core.specs.Parent.{counted_of};
 ghost use Rattle.parent_core.specs.Ruled.{addressed};
-ghost use Rattle.parent_core.specs.Sending.{bundle_with, bundles_to, HaveParts, is_sent_to, sent_to};
+ghost use Rattle.parent_core.specs.Sending.{bundle_with, bundles_to, HaveParts, is_sent_to, kill_to};
+ghost use Rattle.parent_core.specs.Sending.{sent_to};
 
 use crate::process::Process;
 use fission_ids::{ContextId, Duplicate, Kept, OutOfMemory, ProcId, ProcSet, Seq, Shared};
@@ -57,6 +60,36 @@ pub(crate) fn commit_part(
     let change = Kept::of(alloc, t.copy()?)?;
     let part = DownPart::Commit { context: x, change };
     Ok(Shared::of(vec![in alloc; part]?)?)
+}
+
+/// A Kill, for process p alone.
+pub(crate) fn kill_for(alloc: Global, p: ProcId) -> Result<Posts, OutOfMemory>
+    requires { p.0 < 16 }
+    ensures parts { IfOk result (λ posts. HaveParts posts) }
+    ensures sent { IfOk result (λ posts. (q : ℕ) → q < 16 → sent_to posts q ≡ kill_to p.0 q) }
+{
+    let parts = kill_part(alloc)?;
+    Ok(Posts {
+        to: only(p),
+        back: parts.copy()?,
+        parts,
+        back_to: ProcSet::EMPTY,
+    })
+}
+
+// A Kill, as the one part of a bundle.
+fn kill_part(alloc: Global) -> Result<Shared<DownPart>, OutOfMemory>
+    ensures { IfOk result (λ s. s ≡ downs.Kill ∷ []) }
+{
+    Ok(Shared::of(vec![in alloc; DownPart::Kill]?)?)
+}
+
+// The set of process p alone.
+fn only(p: ProcId) -> ProcSet
+    requires { p.0 < 16 }
+    ensures { (q : ℕ) → q < 16 → has result q ≡ (q == p.0) }
+{
+    ProcSet::EMPTY.with(p)
 }
 
 /// The bundles that are sent, by the numbers of the processes. Each says the epoch that was heard last of its

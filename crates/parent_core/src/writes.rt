@@ -1,5 +1,5 @@
 ghost use Rattle.std.specs.Prelude.{◌≡◌, ◌&&◌, ◌∷◌, [], not, map, filter, is_some, unwrap_or, false, IfOk};
-ghost use Rattle.std.specs.Prelude.{if◌then◌else◌, None, Some};
+ghost use Rattle.std.specs.Prelude.{if◌then◌else◌, MatchOption, None, Some};
 ghost use Rattle.std.specs.List.{list_any};
 ghost use Rattle.field_table.specs.declared.field.Field.{Field};
 ghost use Rattle.field_table.specs.declared.value.Value.TheVariants.{Flag};
@@ -12,10 +12,11 @@ ghost use Rattle.field_rules.specs.Rules.{is_denied};
 ghost use Rattle.wire_msgs.specs.declared.answer.Answer.TheVariants.{Parts};
 ghost use Rattle.wire_msgs.specs.declared.note.FieldMark.TheVariants.{Applied, Reverted};
 ghost use Rattle.wire_msgs.specs.declared.note.PartNote.TheVariants.{Commit as CommitNote};
-ghost use Rattle.protocol.specs.Hear.{is_reverted, mark_of};
+ghost use Rattle.protocol.specs.Hear.{denial as denial_of, is_reverted, mark_of};
 ghost use Rattle.wire_msgs.specs.declared.part.UpPart.TheVariants.{Commit};
 ghost use Rattle.protocol.specs.ParentActs.{denial_refused};
-ghost use Rattle.parent_core.specs.Writes.{IsOneCommit, question_of_write, denied_in_write};
+ghost use Rattle.parent_core.specs.Faults.{commit_of};
+ghost use Rattle.parent_core.specs.Writes.{IsOneCommit, denied_from, denied_in_write, is_denied_from};
 ghost use Rattle.parent_core.specs.Writes.{is_reverted_in, notes_with};
 
 use field_rules::{Ask, Rules, denied};
@@ -23,7 +24,18 @@ use field_table::{Field, FieldSet, Fields, Verdict};
 use fission_ids::{ContextId, Duplicate, OutOfMemory, ProcId, Seq};
 use std::alloc::Global;
 use transaction::Transaction;
-use wire_msgs::{Answer, FieldMark, FieldNote, PartNote, Refusal, UpPart};
+use wire_msgs::{Answer, EndCause, FieldMark, FieldNote, PartNote, Refusal, UpPart};
+
+/// The context and the new values of the commit that parts are. None where they aren't one commit alone.
+pub(crate) fn commit_of(parts: &[UpPart]) -> Option<(ContextId, &Transaction)>
+    ensures { MatchOption result (commit_of parts.now ≡ None)
+        (λ c. Some (c.0, c.1.now) ≡ commit_of parts.now) }
+{
+    match parts {
+        [UpPart::Commit { context, change }] => Some((*context, change.get())),
+        _ => None,
+    }
+}
 
 /// The context and the new values of the one commit of a bundle.
 pub(crate) fn commit_in(parts: Seq<UpPart>) -> (ContextId, Transaction)
@@ -175,7 +187,7 @@ pub(crate) fn is_empty(t: &Transaction) -> bool
 pub(crate) fn denial(x: ContextId, t: &Transaction) -> Option<Refusal>
     ensures { result ≡ denial_refused (denied_in_write x t.now) }
 {
-    let denied = denied_fields(x, t);
+    let denied = denied_fields(None, x, false, t);
     if denied == FieldSet::EMPTY {
         None
     } else {
@@ -183,24 +195,34 @@ pub(crate) fn denial(x: ContextId, t: &Transaction) -> Option<Refusal>
     }
 }
 
-// The modified fields that the parent may not write so.
-fn denied_fields(x: ContextId, t: &Transaction) -> FieldSet
-    ensures { result ≡ set_of (λ f. is_some (new_value t.now f)
-        && is_denied (question_of_write x f (unwrap_or (new_value t.now f) (Flag false)))) }
+/// Why a commit of process p to a top-level context, which it owns or not, ends it, if it may not write so.
+pub(crate) fn denial_heard(p: ProcId, x: ContextId, owns: bool, t: &Transaction) -> Option<EndCause>
+    ensures { result ≡ denial_of x (denied_from (Some (record { 0 = p.0 })) x owns t.now) }
+{
+    let fields = denied_fields(Some(p), x, owns, t);
+    if fields == FieldSet::EMPTY {
+        None
+    } else {
+        Some(EndCause::Denied { context: x, fields })
+    }
+}
+
+// The modified fields that may not be written so, by a process or by the parent.
+fn denied_fields(from: Option<ProcId>, x: ContextId, owns: bool, t: &Transaction) -> FieldSet
+    ensures { result ≡ set_of (λ f. is_some (new_value t.now f) && is_denied_from from x owns t.now f) }
 {
     let mut denied = FieldSet::EMPTY;
     for f in Field::ALL {
-        if is_denied_in(x, t, f) {
+        if is_denied_in(from, x, owns, t, f) {
             denied = denied.with(f);
         }
     }
     denied
 }
 
-// Whether a field is modified, and the parent may not write it so.
-fn is_denied_in(x: ContextId, t: &Transaction, f: Field) -> bool
-    ensures { result ≡ (is_some (new_value t.now f)
-        && is_denied (question_of_write x f (unwrap_or (new_value t.now f) (Flag false)))) }
+// Whether a field is modified, and may not be written so.
+fn is_denied_in(from: Option<ProcId>, x: ContextId, owns: bool, t: &Transaction, f: Field) -> bool
+    ensures { result ≡ (is_some (new_value t.now f) && is_denied_from from x owns t.now f) }
 {
     match t.value(f) {
         None => false,
@@ -210,8 +232,8 @@ fn is_denied_in(x: ContextId, t: &Transaction, f: Field) -> bool
             context: x,
             top: true,
             window: None,
-            from: None,
-            owner_is_sender: false,
+            from,
+            owner_is_sender: owns,
         }),
     }
 }

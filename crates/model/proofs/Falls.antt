@@ -1,30 +1,30 @@
 -- How a step changes the weight of a run: none adds much, and a hear and a take where something waits lower it.
-use Rattle.std.proofs.Common.{◌≡◌, ℕ, Bool, ◌+◌, ◌<◌, ◌≤◌, List, [], ◌∷◌, length, refl, sym, subst, arith}
+use Rattle.std.proofs.Common.{◌≡◌, ℕ, Bool, true, false, if◌then◌else◌, ◌+◌, ◌<◌, ◌≤◌, List, [], ◌∷◌, length, refl, sym, subst, arith}
 use Rattle.std.specs.List.{AllByRecursion}
 use Rattle.field_table.specs.declared.field.Field.{Field}
 use Rattle.field_rules.specs.Bounds.{Bounds}
 use Rattle.wire_msgs.specs.declared.answer.Answer.{Answer}
 use Rattle.wire_msgs.specs.declared.answer.Answer.TheVariants.{Refused}
-use Rattle.wire_msgs.specs.declared.refusal.Refusal.TheVariants.{Empty}
+use Rattle.wire_msgs.specs.declared.refusal.Refusal.TheVariants.{Stopped, Empty}
 use Rattle.wire_msgs.specs.declared.bundle.UpBundle.{UpBundle}
 use Rattle.wire_msgs.specs.declared.config.Config.{Config}
-use Rattle.wire_msgs.specs.declared.part.DownPart.{DownPart}
+use Rattle.wire_msgs.specs.declared.bundle.DownBundle.{DownBundle}
 use Rattle.journal.specs.Step.{StepFits}
 use Rattle.journal.specs.declared.entry.Step.{Step}
-use Rattle.journal.specs.declared.entry.Step.TheVariants.{Act, Take, ParentAct, Hear}
+use Rattle.journal.specs.declared.entry.Step.TheVariants.{Act, Take, Raw as RawStep, ParentAct, Hear}
 use Rattle.protocol.specs.Outside.{told_allowed}
 use Rattle.protocol.specs.Start.{numbers}
 use Rattle.traces.specs.Event.{Bundle}
 use Rattle.traces.specs.Links.{writes_waiting, bundles_waiting}
 use Rattle.model.specs.Journal.{Journal, steps_of}
 use Rattle.model.specs.Laws.{RunFits, StepAddsLittle}
-use Rattle.model.specs.Moments.{Moment, Written, moment, moments_of, events_of, only_answer, heard_moment, taken_moment}
-use Rattle.model.specs.Moments.Written.{Own, Said}
+use Rattle.model.specs.Moments.{Moment, Written, moment, moments_of, events_of, seen_now, only_answer, if_running, heard_moment, taken_moment, raw_moment}
+use Rattle.model.specs.Moments.Written.{Own, Raw, Said}
 use Rattle.model.specs.Next.{Run, run_after, moment_after}
 use Rattle.model.specs.Settling.{total, weight, weight_at, moments_in}
 use Rattle.model.proofs.WeightsSums.{at_one, at_most, at_least, ones, total_none, totals}
 use Rattle.model.proofs.WeightsLinks.{nothing_sent}
-use Rattle.model.proofs.FallsSteps.{Lights, EachChanged, none_waited, act_changes, take_changes, parent_changes, hear_changes}
+use Rattle.model.proofs.FallsSteps.{Lights, EachChanged, none_waited, act_changes, take_changes, raw_changes, parent_changes, hear_changes, hear_raw_changes}
 
 -- what a step does to the links, where there are n processes
 pub record StepChanges (n : ℕ) (ms : List Moment) (m : Moment) : Type 0 where
@@ -41,7 +41,7 @@ no_changes n ms a lights = record {
   little = λ few. omega (arith, total_none (numbers 0 n));
 }
 
-take_step : (c : Config) (p n : ℕ) (ms : List Moment) (w : List (Bundle (List DownPart))) → bundles_waiting (events_of p ms) ≡ w → Lights ms → StepChanges n ms (taken_moment c p ms w)
+take_step : (c : Config) (p n : ℕ) (ms : List Moment) (w : List (Bundle DownBundle)) → bundles_waiting (events_of p ms) ≡ w → Lights ms → StepChanges n ms (taken_moment c p ms w)
 take_step c p n ms [] first lights = no_changes n ms (Refused Empty) lights
 take_step c p n ms (b ∷ bs) first lights = record {
   more = at_one p 0;
@@ -50,9 +50,23 @@ take_step c p n ms (b ∷ bs) first lights = record {
   little = λ few. omega (arith, at_most p 0 0 n);
 }
 
+-- a step of a process, unless it stopped
+running_step : (c : Config) (p n : ℕ) (ms : List Moment) (m : Moment) → Lights ms → StepChanges n ms m → StepChanges n ms (if_running c p ms m)
+running_step c p n ms m lights next = by (seen_now c p ms).running
+  where
+    by : (b : Bool) → StepChanges n ms (if b then m else only_answer (Refused Stopped))
+    by true = next
+    by false = no_changes n ms (Refused Stopped) lights
+
 hear_step : (c : Config) (p n : ℕ) (ms : List Moment) (allows : Field → Bool) (w : List Written) → writes_waiting (events_of p ms) ≡ w → Lights ms → StepChanges n ms (heard_moment c p ms allows w)
 hear_step c p n ms allows [] first lights = no_changes n ms (Refused Empty) lights
 hear_step c p n ms allows (Said says ∷ ws) first lights = no_changes n ms (Refused Empty) lights
+hear_step c p n ms allows (Raw b ∷ ws) first lights = record {
+  more = λ q. 1;
+  less = at_one p 17;
+  each = hear_raw_changes c p ms allows b ws first lights;
+  little = λ few. omega (arith, ones (λ q. 1) (λ q. omega arith) 0 n);
+}
 hear_step c p n ms allows (Own b ∷ ws) first lights = record {
   more = λ q. 1;
   less = at_one p 17;
@@ -67,7 +81,14 @@ step_changes c ms allows (Act p action) fits lights = record {
   each = act_changes c p.0 action ms fits.played lights;
   little = λ few. omega (arith, at_most p.0 17 0 (length c.types));
 }
-step_changes c ms allows (Take p) fits lights = take_step c p.0 (length c.types) ms (bundles_waiting (events_of p.0 ms)) refl lights
+step_changes c ms allows (Take p) fits lights =
+    running_step c p.0 (length c.types) ms (taken_moment c p.0 ms (bundles_waiting (events_of p.0 ms))) lights (take_step c p.0 (length c.types) ms (bundles_waiting (events_of p.0 ms)) refl lights)
+step_changes c ms allows (RawStep p b) fits lights = running_step c p.0 (length c.types) ms (raw_moment p.0 b) lights (record {
+  more = at_one p.0 17;
+  less = at_one p.0 0;
+  each = raw_changes c p.0 b ms fits.parts lights;
+  little = λ few. omega (arith, at_most p.0 17 0 (length c.types));
+})
 step_changes c ms allows (ParentAct action) fits lights = record {
   more = λ q. 1;
   less = λ q. 0;
@@ -105,21 +126,34 @@ adds_little b r s fits =
     omega (arith, run_weighs b r s changes.more changes.less changes.each, changes.little fits.config.few)
 
 -- a hear where something waits: one bundle of 17 less, and at most one of 1 more for each process
-pub hear_lowers : (bounds : Bounds) (r : Run) (p : ℕ) (b : UpBundle) (ws : List Written) → RunFits r → p < length r.config.types → writes_waiting (events_of p (moments_in r)) ≡ Own b ∷ ws
+hear_falls : (bounds : Bounds) (r : Run) (p : ℕ) (ws : List Written) → RunFits r → p < length r.config.types → writes_waiting (events_of p (moments_in r)) ≡ ws
+    → EachChanged (moments_in r) (heard_moment r.config p (moments_in r) (told_in bounds r (Hear (record { 0 = p }))) ws) (λ q. 1) (at_one p 17)
     → weight (run_after bounds r (Hear (record { 0 = p }))) + 1 ≤ weight r
-hear_lowers bounds r p b ws fits below first =
+hear_falls bounds r p ws fits below first changes =
     let ms : List Moment = moments_in r in
     let n : ℕ = length r.config.types in
     let allows : Field → Bool = told_in bounds r (Hear (record { 0 = p })) in
     let each : EachChanged ms (moment r.config ms allows (Hear (record { 0 = p }))) (λ q. 1) (at_one p 17) =
-    subst (λ w. EachChanged ms (heard_moment r.config p ms allows w) (λ q. 1) (at_one p 17)) (sym first) (hear_changes r.config p ms allows b ws first (run_lights r fits)) in
+    subst (λ w. EachChanged ms (heard_moment r.config p ms allows w) (λ q. 1) (at_one p 17)) (sym first) changes in
     omega (arith, run_weighs bounds r (Hear (record { 0 = p })) (λ q. 1) (at_one p 17) each, ones (λ q. 1) (λ q. omega arith) 0 n, at_least p 17 0 n (omega arith) (omega arith), fits.config.few)
 
--- a take where something waits: one bundle less
-pub take_lowers : (bounds : Bounds) (r : Run) (p : ℕ) (b : Bundle (List DownPart)) (bs : List (Bundle (List DownPart))) → RunFits r → p < length r.config.types → bundles_waiting (events_of p (moments_in r)) ≡ b ∷ bs → weight (run_after bounds r (Take (record { 0 = p }))) + 1 ≤ weight r
-take_lowers bounds r p b bs fits below first =
+pub hear_lowers : (bounds : Bounds) (r : Run) (p : ℕ) (b : UpBundle) (ws : List Written) → RunFits r → p < length r.config.types → writes_waiting (events_of p (moments_in r)) ≡ Own b ∷ ws
+    → weight (run_after bounds r (Hear (record { 0 = p }))) + 1 ≤ weight r
+hear_lowers bounds r p b ws fits below first =
+    hear_falls bounds r p (Own b ∷ ws) fits below first (hear_changes r.config p (moments_in r) (told_in bounds r (Hear (record { 0 = p }))) b ws first (run_lights r fits))
+
+pub hear_raw_lowers : (bounds : Bounds) (r : Run) (p : ℕ) (b : UpBundle) (ws : List Written) → RunFits r → p < length r.config.types → writes_waiting (events_of p (moments_in r)) ≡ Raw b ∷ ws
+    → weight (run_after bounds r (Hear (record { 0 = p }))) + 1 ≤ weight r
+hear_raw_lowers bounds r p b ws fits below first =
+    hear_falls bounds r p (Raw b ∷ ws) fits below first (hear_raw_changes r.config p (moments_in r) (told_in bounds r (Hear (record { 0 = p }))) b ws first (run_lights r fits))
+
+-- a take of a process that runs where something waits: one bundle less
+pub take_lowers : (bounds : Bounds) (r : Run) (p : ℕ) (b : Bundle DownBundle) (bs : List (Bundle DownBundle)) → RunFits r → p < length r.config.types → (seen_now r.config p (moments_in r)).running ≡ true
+    → bundles_waiting (events_of p (moments_in r)) ≡ b ∷ bs → weight (run_after bounds r (Take (record { 0 = p }))) + 1 ≤ weight r
+take_lowers bounds r p b bs fits below runs first =
     let ms : List Moment = moments_in r in
     let n : ℕ = length r.config.types in
     let each : EachChanged ms (moment r.config ms (told_in bounds r (Take (record { 0 = p }))) (Take (record { 0 = p }))) (at_one p 0) (at_one p 1) =
-    subst (λ w. EachChanged ms (taken_moment r.config p ms w) (at_one p 0) (at_one p 1)) (sym first) (take_changes r.config p ms b bs first (run_lights r fits)) in
+    subst (λ (v : Bool). EachChanged ms (if v then taken_moment r.config p ms (bundles_waiting (events_of p ms)) else only_answer (Refused Stopped)) (at_one p 0) (at_one p 1)) (sym runs)
+    (subst (λ w. EachChanged ms (taken_moment r.config p ms w) (at_one p 0) (at_one p 1)) (sym first) (take_changes r.config p ms b bs first (run_lights r fits))) in
     omega (arith, run_weighs bounds r (Take (record { 0 = p })) (at_one p 0) (at_one p 1) each, at_most p 0 0 n, at_least p 1 0 n (omega arith) (omega arith))

@@ -4,9 +4,14 @@ pub mod TiesValues
 pub mod TiesTrace
 pub mod Ties
 pub mod Shown
+pub mod Tied
+pub mod Acting
+pub mod Entries
+pub mod Hearing
 pub mod Keeping
 pub mod ShownLaws
-pub mod Honest
+pub mod Waiting
+pub mod Reverted
 pub mod WeightsSums
 pub mod WeightsLinks
 pub mod FallsSteps
@@ -15,4 +20,4 @@ pub mod RoundsGoes
 pub mod Rounds
 pub mod Refused
 pub mod ReadBack
-pub mod Reverted
+pub mod Ending

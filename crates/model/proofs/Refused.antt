@@ -10,10 +10,11 @@ use Rattle.wire_msgs.specs.declared.answer.Answer.{Answer}
 use Rattle.wire_msgs.specs.declared.answer.Answer.TheVariants.{Refused, Ignored}
 use Rattle.wire_msgs.specs.declared.cause.EndCause.{EndCause}
 use Rattle.wire_msgs.specs.declared.config.Config.{Config}
+use Rattle.wire_msgs.specs.declared.bundle.DownBundle.{DownBundle}
 use Rattle.wire_msgs.specs.declared.bundle.UpBundle.{UpBundle}
-use Rattle.wire_msgs.specs.declared.part.DownPart.{DownPart}
 use Rattle.wire_msgs.specs.declared.refusal.Refusal.{Refusal}
-use Rattle.journal.specs.declared.entry.Step.TheVariants.{Act, Take, ParentAct, Hear}
+use Rattle.wire_msgs.specs.declared.refusal.Refusal.TheVariants.{Stopped}
+use Rattle.journal.specs.declared.entry.Step.TheVariants.{Act, Take, Raw as RawStep, ParentAct, Hear}
 use Rattle.protocol.specs.Questions.{Facts}
 use Rattle.protocol.specs.Sayings.{Saying}
 use Rattle.protocol.specs.Seen.{Seen, Doing}
@@ -31,9 +32,9 @@ use Rattle.protocol.specs.Take.{bundle_sent}
 use Rattle.traces.specs.Event.{Bundle}
 use Rattle.traces.specs.Links.{writes_waiting, bundles_waiting}
 use Rattle.model.specs.Laws.{is_refused, Unchanged, RefusedChangesNothing}
-use Rattle.model.specs.Links.{own_bundles}
-use Rattle.model.specs.Moments.{Moment, Written, ProcessEvent, said, did_by, events_of, facts_now, seen_now, for_one, written, down_bundle, act_moment, taken_moment, parent_moment, heard_moment}
-use Rattle.model.specs.Moments.Written.{Own, Said}
+use Rattle.model.specs.Links.{bundles_in}
+use Rattle.model.specs.Moments.{Moment, Written, ProcessEvent, said, did_by, events_of, facts_now, seen_now, for_one, written, ends, told, only_answer, if_running, act_moment, taken_moment, raw_moment, parent_moment, heard_moment}
+use Rattle.model.specs.Moments.Written.{Own, Raw, Said}
 use Rattle.model.specs.Parent.{asked}
 use Rattle.model.specs.Process.{own_asked}
 
@@ -51,8 +52,8 @@ silent : (c : Config) (m : Moment) (ms : List Moment) → m.says ≡ [] → ((q 
 silent c m ms says did events = record {
   facts = ap (λ (ys : List Saying). asked c.tabs (ys ++ said ms)) says;
   seen = λ p. ap (λ (ds : List Doing). own_asked c.tabs p (ds ++ did_by p ms)) (did p);
-  ups = λ p. ap (λ (es : List ProcessEvent). own_bundles (writes_waiting (es ++ events_of p ms))) (events p);
-  downs = λ p. ap (λ (es : List ProcessEvent). map down_bundle (bundles_waiting (es ++ events_of p ms))) (events p);
+  ups = λ p. ap (λ (es : List ProcessEvent). bundles_in (writes_waiting (es ++ events_of p ms))) (events p);
+  downs = λ p. ap (λ (es : List ProcessEvent). map (λ (b : Bundle DownBundle). b.content) (bundles_waiting (es ++ events_of p ms))) (events p);
 }
 
 -- ---- a process
@@ -91,9 +92,17 @@ acts_refused c p action ms = by (acting.refusal p (seen_now c p ms) action)
     by (Some why) e = silent c (moment_by c p ms (step (Some why))) ms refl (no_items p) (no_items p)
     by None e = let no_refusal : is_refused (acting.answer p (seen_now c p ms) action) ≡ false = own_answer p (seen_now c p ms) action in cc
 
-take_refused : (c : Config) (p : ℕ) (ms : List Moment) (ds : List (Bundle (List DownPart))) → is_refused (taken_moment c p ms ds).answer ≡ true → Unchanged c (taken_moment c p ms ds) ms
+take_refused : (c : Config) (p : ℕ) (ms : List Moment) (ds : List (Bundle DownBundle)) → is_refused (taken_moment c p ms ds).answer ≡ true → Unchanged c (taken_moment c p ms ds) ms
 take_refused c p ms [] e = silent c (taken_moment c p ms []) ms refl (λ q. refl) (λ q. refl)
 take_refused c p ms (d ∷ ds) e = cc
+
+-- a step of a process that stopped
+if_refused : (c : Config) (p : ℕ) (m : Moment) (ms : List Moment) → (is_refused m.answer ≡ true → Unchanged c m ms) → is_refused (if_running c p ms m).answer ≡ true → Unchanged c (if_running c p ms m) ms
+if_refused c p m ms one = by (seen_now c p ms).running
+  where
+    by : (b : Bool) → is_refused (if b then m else only_answer (Refused Stopped)).answer ≡ true → Unchanged c (if b then m else only_answer (Refused Stopped)) ms
+    by true e = one e
+    by false e = silent c (only_answer (Refused Stopped)) ms refl (λ q. refl) (λ q. refl)
 
 -- ---- the parent
 
@@ -114,29 +123,26 @@ none_sent facts zero = refl
 none_sent facts (suc n) = none_sent facts n
 
 -- nothing was said, and nobody was sent anything
-unsaid : (c : Config) (k : ℕ) (a : Answer) (kept : List Saying) (ms : List Moment) → kept ≡ []
-    → Unchanged c (parent_moment k (record { answer = a; kept = kept; sends = λ q. [] })) ms
-unsaid c k a kept ms none = record {
+unsaid : (c : Config) (a : Answer) (kept : List Saying) (ms : List Moment) → kept ≡ []
+    → Unchanged c (parent_moment c ms (record { answer = a; kept = kept; sends = λ q. [] })) ms
+unsaid c a kept ms none = record {
   facts = ap (λ (ys : List Saying). asked c.tabs (ys ++ said ms)) none;
   seen = λ p. refl;
-  ups = λ p. refl;
-  downs = λ p. refl;
+  ups = λ p. ap (λ (ys : List Saying). bundles_in (writes_waiting ((ends p ys ++ told (length ms + 1) ys None ∷ []) ++ events_of p ms))) none;
+  downs = λ p. ap (λ (ys : List Saying). map (λ (b : Bundle DownBundle). b.content) (bundles_waiting ((ends p ys ++ told (length ms + 1) ys None ∷ []) ++ events_of p ms))) none;
 }
 
-parent_refused : (c : Config) (k : ℕ) (action : ParentAction) (ms : List Moment)
+parent_refused : (c : Config) (action : ParentAction) (ms : List Moment)
     → (let r : Ruling (List Saying) = action_ruling (λ says. asked c.tabs (says ++ said ms)) (λ y says. y ∷ says) (length c.types) action [] in
-    is_refused (parent_moment k r).answer ≡ true → Unchanged c (parent_moment k r) ms)
-parent_refused c k action ms = by (parent.refusal (facts_now c ms) action)
+    is_refused (parent_moment c ms r).answer ≡ true → Unchanged c (parent_moment c ms r) ms)
+parent_refused c action ms = by (parent.refusal (facts_now c ms) action)
   where
-    facts : List Saying → Facts
-    facts says = asked c.tabs (says ++ said ms)
-
     rule : Option Refusal → Ruling (List Saying)
     rule o = option_map_or (λ why. ruling (λ says. asked c.tabs (says ++ said ms)) (λ y says. y ∷ says) (length c.types) (Refused why) (λ q. []) []) o
         (done_ruling (λ says. asked c.tabs (says ++ said ms)) (λ y says. y ∷ says) (length c.types) action [])
 
-    by : (o : Option Refusal) → is_refused (rule o).answer ≡ true → Unchanged c (parent_moment k (rule o)) ms
-    by (Some why) e = unsaid c k (Refused why) (after_sending (λ says. asked c.tabs (says ++ said ms)) (λ y says. y ∷ says) (length c.types) (λ q. []) []) ms (none_sent (λ says. asked c.tabs (says ++ said ms)) (length c.types))
+    by : (o : Option Refusal) → is_refused (rule o).answer ≡ true → Unchanged c (parent_moment c ms (rule o)) ms
+    by (Some why) e = unsaid c (Refused why) (after_sending (λ says. asked c.tabs (says ++ said ms)) (λ y says. y ∷ says) (length c.types) (λ q. []) []) ms (none_sent (λ says. asked c.tabs (says ++ said ms)) (length c.types))
     by None e = let no_refusal : is_refused (parent.answer (facts_now c ms) action) ≡ false = parent_answer (facts_now c ms) action in cc
 
 -- a bundle is never refused
@@ -156,12 +162,16 @@ bundle_answer allows facts n p b =
 hear_refused : (c : Config) (p : ℕ) (ms : List Moment) (allows : Field → Bool) (ws : List Written) → is_refused (heard_moment c p ms allows ws).answer ≡ true → Unchanged c (heard_moment c p ms allows ws) ms
 hear_refused c p ms allows [] e = silent c (heard_moment c p ms allows []) ms refl (λ q. refl) (λ q. refl)
 hear_refused c p ms allows (Said says ∷ ws) e = silent c (heard_moment c p ms allows (Said says ∷ ws)) ms refl (λ q. refl) (λ q. refl)
+hear_refused c p ms allows (Raw b ∷ ws) e =
+    let no_refusal : is_refused (bundle_ruling (λ says. asked c.tabs (says ++ said ms)) (λ y says. y ∷ says) (length c.types) allows p b []).answer ≡ false =
+    bundle_answer allows (λ says. asked c.tabs (says ++ said ms)) (length c.types) p b in cc
 hear_refused c p ms allows (Own b ∷ ws) e =
     let no_refusal : is_refused (bundle_ruling (λ says. asked c.tabs (says ++ said ms)) (λ y says. y ∷ says) (length c.types) allows p b []).answer ≡ false =
     bundle_answer allows (λ says. asked c.tabs (says ++ said ms)) (length c.types) p b in cc
 
 pub refused_still : RefusedChangesNothing
 refused_still c ms allows (Act p action) e = acts_refused c p.0 action ms e
-refused_still c ms allows (Take p) e = take_refused c p.0 ms (bundles_waiting (events_of p.0 ms)) e
-refused_still c ms allows (ParentAct action) e = parent_refused c (length ms + 1) action ms e
+refused_still c ms allows (Take p) e = if_refused c p.0 (taken_moment c p.0 ms (bundles_waiting (events_of p.0 ms))) ms (take_refused c p.0 ms (bundles_waiting (events_of p.0 ms))) e
+refused_still c ms allows (RawStep p b) e = if_refused c p.0 (raw_moment p.0 b) ms (λ same. absurd cc) e
+refused_still c ms allows (ParentAct action) e = parent_refused c action ms e
 refused_still c ms allows (Hear p) e = hear_refused c p.0 ms allows (writes_waiting (events_of p.0 ms)) e

@@ -1,8 +1,8 @@
 -- What settling does, one process after the other: entries come, and what waits weighs as much less at least.
-use Rattle.std.proofs.Common.{◌≡◌, ℕ, zero, suc, ◌+◌, ◌-◌, ◌<◌, ◌≤◌, true, not, ◌&&◌, if◌then◌else◌, List, [], ◌∷◌, ◌++◌, length, map, refl, ap, sym, subst, ◌∙◌, arith, append_assoc, length-append}
+use Rattle.std.proofs.Common.{◌≡◌, ℕ, zero, suc, ◌+◌, ◌-◌, ◌<◌, ◌≤◌, Bool, true, false, not, ◌&&◌, if◌then◌else◌, List, [], ◌∷◌, ◌++◌, length, map, refl, ap, sym, subst, ◌∙◌, arith, append_assoc, length-append}
 use Rattle.std.specs.List.{AllByRecursion}
 use Rattle.field_rules.specs.Bounds.{Bounds}
-use Rattle.wire_msgs.specs.declared.part.DownPart.{DownPart}
+use Rattle.wire_msgs.specs.declared.bundle.DownBundle.{DownBundle}
 use Rattle.journal.specs.Step.{StepFits}
 use Rattle.journal.specs.declared.entry.Step.{Step}
 use Rattle.journal.specs.declared.entry.Step.TheVariants.{Take, Hear}
@@ -11,13 +11,14 @@ use Rattle.traces.specs.Event.{Bundle}
 use Rattle.traces.specs.Links.{writes_waiting, bundles_waiting}
 use Rattle.model.specs.Journal.{Journal}
 use Rattle.model.specs.Laws.{RunFits}
-use Rattle.model.specs.Links.{own_bundles, is_nothing}
-use Rattle.model.specs.Moments.{Written, events_of, down_bundle}
-use Rattle.model.specs.Moments.Written.{Own, Said}
+use Rattle.model.specs.Links.{bundles_in, is_nothing}
+use Rattle.model.specs.Moments.{Written, events_of, seen_now}
+use Rattle.model.specs.Moments.Written.{Own, Raw, Said}
 use Rattle.model.specs.Next.{Run, run_after, moment_after}
 use Rattle.model.specs.Settling.{weight, moments_in, heard_by, taken_by, all_served, round, IsServed, Extends}
-use Rattle.model.proofs.WeightsLinks.{IsOwnCommit, waiting_own}
-use Rattle.model.proofs.Falls.{run_lights, hear_lowers, take_lowers}
+use Rattle.model.proofs.Ties.{IsUp}
+use Rattle.model.proofs.WeightsLinks.{waiting_own}
+use Rattle.model.proofs.Falls.{run_lights, hear_lowers, hear_raw_lowers, take_lowers}
 
 -- r' came of r: entries were added, what waits weighs as much less at least, and without a further entry
 -- nothing has changed
@@ -68,6 +69,10 @@ pub numbers_below : (k m n : ℕ) → k + m ≤ n → AllByRecursion (λ p. p < 
 numbers_below k zero n within = tt
 numbers_below k (suc m) n within = (omega arith, numbers_below (suc k) m n (omega arith))
 
+-- the bundles, as they wait
+abbrev contents : List (Bundle DownBundle) → List DownBundle
+contents w = map (λ (b : Bundle DownBundle). b.content) w
+
 module _ (bounds : Bounds) where
   -- a step that takes from the weight
   pub goes_step : (r : Run) (s : Step) → RunFits r → StepFits (length r.config.types) s → weight (run_after bounds r s) + 1 ≤ weight r → Goes r (run_after bounds r s)
@@ -81,22 +86,27 @@ module _ (bounds : Bounds) where
 
   -- ---- one process
 
-  hear_of : (r : Run) (p : ℕ) (w : List Written) → RunFits r → p < length r.config.types → writes_waiting (events_of p (moments_in r)) ≡ w → AllByRecursion IsOwnCommit w
-      → Goes r (if is_nothing (own_bundles w) then r else run_after bounds r (Hear (record { 0 = p })))
+  hear_of : (r : Run) (p : ℕ) (w : List Written) → RunFits r → p < length r.config.types → writes_waiting (events_of p (moments_in r)) ≡ w → AllByRecursion IsUp w
+      → Goes r (if is_nothing (bundles_in w) then r else run_after bounds r (Hear (record { 0 = p })))
   hear_of r p [] fits below first own = goes_nowhere r fits
   hear_of r p (Own b ∷ ws) fits below first own = goes_step r (Hear (record { 0 = p })) fits below (hear_lowers bounds r p b ws fits below first)
+  hear_of r p (Raw b ∷ ws) fits below first own = goes_step r (Hear (record { 0 = p })) fits below (hear_raw_lowers bounds r p b ws fits below first)
   hear_of r p (Said says ∷ ws) fits below first own = absurd own.0
 
   pub goes_heard : (p : ℕ) (r : Run) → RunFits r → p < length r.config.types → Goes r (heard_by bounds p r)
   goes_heard p r fits below = hear_of r p (writes_waiting (events_of p (moments_in r))) fits below refl (waiting_own (events_of p (moments_in r)) (run_lights r fits p))
 
-  take_of : (r : Run) (p : ℕ) (w : List (Bundle (List DownPart))) → RunFits r → p < length r.config.types → bundles_waiting (events_of p (moments_in r)) ≡ w
-      → Goes r (if true && not (is_nothing (map down_bundle w)) then run_after bounds r (Take (record { 0 = p })) else r)
-  take_of r p [] fits below first = goes_nowhere r fits
-  take_of r p (b ∷ bs) fits below first = goes_step r (Take (record { 0 = p })) fits below (take_lowers bounds r p b bs fits below first)
+  take_of : (r : Run) (p : ℕ) (w : List (Bundle DownBundle)) → RunFits r → p < length r.config.types → (seen_now r.config p (moments_in r)).running ≡ true → bundles_waiting (events_of p (moments_in r)) ≡ w
+      → Goes r (if not (is_nothing (contents w)) then run_after bounds r (Take (record { 0 = p })) else r)
+  take_of r p [] fits below runs first = goes_nowhere r fits
+  take_of r p (b ∷ bs) fits below runs first = goes_step r (Take (record { 0 = p })) fits below (take_lowers bounds r p b bs fits below runs first)
 
   pub goes_taken : (p : ℕ) (r : Run) → RunFits r → p < length r.config.types → Goes r (taken_by bounds p r)
-  goes_taken p r fits below = take_of r p (bundles_waiting (events_of p (moments_in r))) fits below refl
+  goes_taken p r fits below = by (seen_now r.config p (moments_in r)).running refl
+    where
+      by : (v : Bool) → (seen_now r.config p (moments_in r)).running ≡ v → Goes r (if v && not (is_nothing (contents (bundles_waiting (events_of p (moments_in r))))) then run_after bounds r (Take (record { 0 = p })) else r)
+      by true runs = take_of r p (bundles_waiting (events_of p (moments_in r))) fits below runs refl
+      by false stopped = goes_nowhere r fits
 
   pub goes_served : (p : ℕ) (r : Run) → RunFits r → p < length r.config.types → Goes r (taken_by bounds p (heard_by bounds p r))
   goes_served p r fits below =
@@ -152,18 +162,20 @@ module _ (bounds : Bounds) where
   adds_entry : (r : Run) (s : Step) → run_after bounds r s ≡ r → ⊥
   adds_entry r s same = let len : length (run_after bounds r s).journal ≡ length r.journal = ap (λ x. length x.journal) same in omega (arith, len)
 
-  none_up : (r : Run) (p : ℕ) (w : List Written) → AllByRecursion IsOwnCommit w → (if is_nothing (own_bundles w) then r else run_after bounds r (Hear (record { 0 = p }))) ≡ r → own_bundles w ≡ []
+  none_up : (r : Run) (p : ℕ) (w : List Written) → AllByRecursion IsUp w → (if is_nothing (bundles_in w) then r else run_after bounds r (Hear (record { 0 = p }))) ≡ r → bundles_in w ≡ []
   none_up r p [] own same = refl
   none_up r p (Own b ∷ ws) own same = absurd (adds_entry r (Hear (record { 0 = p })) same)
+  none_up r p (Raw b ∷ ws) own same = absurd (adds_entry r (Hear (record { 0 = p })) same)
   none_up r p (Said says ∷ ws) own same = absurd own.0
 
-  none_down : (r : Run) (p : ℕ) (w : List (Bundle (List DownPart))) → (if true && not (is_nothing (map down_bundle w)) then run_after bounds r (Take (record { 0 = p })) else r) ≡ r → map down_bundle w ≡ []
-  none_down r p [] same = refl
-  none_down r p (b ∷ bs) same = absurd (adds_entry r (Take (record { 0 = p })) same)
+  none_down : (r : Run) (p : ℕ) (w : List (Bundle DownBundle)) (v : Bool) → v ≡ true → (if v && not (is_nothing (contents w)) then run_after bounds r (Take (record { 0 = p })) else r) ≡ r → contents w ≡ []
+  none_down r p [] v runs same = refl
+  none_down r p (b ∷ bs) true runs same = absurd (adds_entry r (Take (record { 0 = p })) same)
+  none_down r p (b ∷ bs) false runs same = absurd cc
 
   -- where serving a process does nothing, nothing waits for it
   pub served_still : (p : ℕ) (r : Run) → RunFits r → heard_by bounds p r ≡ r → taken_by bounds p r ≡ r → IsServed p r
   served_still p r fits heard taken = record {
     up = none_up r p (writes_waiting (events_of p (moments_in r))) (waiting_own (events_of p (moments_in r)) (run_lights r fits p)) heard;
-    down = λ running. none_down r p (bundles_waiting (events_of p (moments_in r))) taken;
+    down = λ running. none_down r p (bundles_waiting (events_of p (moments_in r))) (seen_now r.config p (moments_in r)).running running taken;
   }

@@ -1,5 +1,5 @@
 -- What holds between a field's trace and what is answered of the field, on both sides.
-use Rattle.std.proofs.Common.{◌≡◌, ◌⊎◌, inl, inr, ℕ, ◌+◌, Bool, true, false, not, ◌&&◌, if◌then◌else◌, Option, None, Some, is_some, List, [], ◌∷◌, ◌++◌, refl, ap, ap₂, sym, subst, ◌∙◌, arith}
+use Rattle.std.proofs.Common.{◌≡◌, ◌⊎◌, inl, inr, ℕ, ◌+◌, ◌<◌, Bool, true, false, not, ◌&&◌, if◌then◌else◌, Option, None, Some, is_some, List, [], ◌∷◌, ◌++◌, refl, ap, ap₂, sym, subst, ◌∙◌}
 use Rattle.std.specs.Prelude.{nat_lt}
 use Rattle.fission_ids.specs.declared.context.ContextId.{ContextId}
 use Rattle.fission_ids.specs.Ids.{same_context}
@@ -10,38 +10,39 @@ use Rattle.transaction.specs.Transaction.{Changes, new_value}
 use Rattle.wire_msgs.specs.declared.config.Config.{Config}
 use Rattle.wire_msgs.specs.declared.config.StartTab.{StartTab}
 use Rattle.wire_msgs.specs.declared.note.FieldMark.TheVariants.{Applied, Obsolete}
+use Rattle.wire_msgs.specs.declared.bundle.DownBundle.{DownBundle}
 use Rattle.wire_msgs.specs.declared.part.DownPart.{DownPart}
 use Rattle.wire_msgs.specs.declared.part.DownPart.TheVariants as downs
 use Rattle.protocol.specs.Fold.{or_later}
 use Rattle.protocol.specs.Hear.{changes_where, is_noted, is_applied}
 use Rattle.protocol.specs.Sayings.{Saying}
 use Rattle.protocol.specs.Seen.{Seen, Doing}
-use Rattle.protocol.specs.Seen.Doing.{Wrote, Given, Took}
+use Rattle.protocol.specs.Seen.Doing.{Wrote, Given, Took, Stopped}
 use Rattle.protocol.specs.Start.{is_live, is_held_at_start, some_if}
 use Rattle.protocol.specs.Take.{taken_mark, taken_notes}
 use Rattle.traces.specs.Event.{Bundle}
-use Rattle.traces.specs.Event.Event.{Writes, Sends, Takes, Accepts, Reverts, Changes as OthersChange}
-use Rattle.traces.specs.Links.{last_write}
+use Rattle.traces.specs.Event.Event.{Writes, Sends, Takes, Accepts, Reverts, Ignores, Changes as OthersChange, Ends}
+use Rattle.traces.specs.Links.{last_write, now, is_ended}
 use Rattle.traces.specs.Field.{Content, Trace, trace_for, reverted_for}
 use Rattle.traces.specs.Field.Content.{Nothing, Gives}
 use Rattle.traces.specs.Words.{Start, Stage, or_else, latest_number, stage, stage_served, while_held}
 use Rattle.traces.specs.Words.Stage.{Held, Coming, Gone}
 use Rattle.traces.specs.Words as words
 use Rattle.traces.specs.Replay.{shown_after_take, shown_after_write, replay}
-use Rattle.traces.specs.Rules.{Fits, Tells, Judges, Where}
+use Rattle.traces.specs.Rules.{Flows, Rises, Fits, Tells, Judges, Where}
 use Rattle.traces.specs.Laws.{Apart}
 use Rattle.traces.proofs.Own.{written_none}
 use Rattle.traces.proofs.Stages.{kept, shows_kept}
 use Rattle.model.specs.Moments.{Written, ProcessEvent}
 use Rattle.model.specs.Moments.Written.{Own, Said}
 use Rattle.model.specs.Parent as parent
-use Rattle.model.specs.Process.{value, newest, own_asked}
+use Rattle.model.specs.Process.{value, newest, commits, own_asked}
 use Rattle.model.specs.View.{value_for, value_said, value_written, given, content_of, look, begin}
 use Rattle.protocol.proofs.Notes.{marked_value}
 use Rattle.model.proofs.TiesStart.{same_context_is, held_live}
-use Rattle.model.proofs.TiesTrace.{AreSimple, content_plain, number_plain, stage_is, served_is, written_is, judged, where_all, where_none}
+use Rattle.model.proofs.TiesTrace.{AreSimple, content_plain, number_plain, stage_is, served_is, gone_is, written_is, judged, unjudged, where_all, where_none}
 use Rattle.model.proofs.TiesValues.{no_later, or_value, value_more, none_for, given_nothing}
-use Rattle.model.proofs.Ties.{Ties, IsHonest, own_bundle}
+use Rattle.model.proofs.Ties.{IsHonest, own_bundle}
 
 -- the field's trace
 abbrev pub trace_of : ContextId → Field → List ProcessEvent → Trace Value
@@ -109,20 +110,20 @@ write_newest false o k before = refl
 write_newest true None k before = refl
 write_newest true (Some v) k before = refl
 
-pub field_wrote : (c : Config) (p : ℕ) (x : ContextId) (f : Field) (says : List Saying) (did : List Doing) (evs : List ProcessEvent) (n k seen : ℕ) (y : ContextId) (t : Changes)
-    → is_held_at_start c.tabs p y ≡ true → Ties c.tabs p says did evs n → FieldTies c p x f says did evs
+pub field_wrote : (c : Config) (p : ℕ) (x : ContextId) (f : Field) (says : List Saying) (did : List Doing) (evs : List ProcessEvent) (k seen : ℕ) (y : ContextId) (t : Changes)
+    → is_held_at_start c.tabs p y ≡ true → AreSimple evs → commits did ≡ last_write evs → FieldTies c p x f says did evs
     → FieldTies c p x f says (Wrote y t ∷ did) (Writes (Own (own_bundle k seen y t)) ∷ evs)
 unfolding value newest
-field_wrote c p x f says did evs n k seen y t held ties ft = record {
+field_wrote c p x f says did evs k seen y t held simple commits_are ft = record {
   apart = ft.apart;
-  fits = (fit_write c p x f evs (or_later (value_for x f y t) None) ties.simple (λ free. no_later (value_for x f y t) ∙ none_for c.tabs p x f y t held free), ft.fits);
+  fits = (fit_write c p x f evs (or_later (value_for x f y t) None) simple (λ free. no_later (value_for x f y t) ∙ none_for c.tabs p x f y t held free), ft.fits);
   newest_is =
-      ap₂ (λ i j. if same_context x y && is_some (new_value t f) then i + 1 else j) (ties.commits_are ∙ sym (written_is x f evs ties.simple)) ft.newest_is
+      ap₂ (λ i j. if same_context x y && is_some (new_value t f) then i + 1 else j) (commits_are ∙ sym (written_is x f evs simple)) ft.newest_is
       ∙ write_newest (same_context x y) (new_value t f) (last_write (trace_of x f evs) + 1) (words.newest (trace_of x f evs));
   shown =
       ap (λ v. if same_context x y then or_later (new_value t f) v else v) ft.shown
       ∙ write_shown (same_context x y) (new_value t f) (replay (begin c p x f) (trace_of x f evs)) (kept (begin c p x f) (trace_of x f evs))
-      (λ e. held_shown c p x f evs ties.simple (ap (is_held_at_start c.tabs p) (same_context_is x y e) ∙ held));
+      (λ e. held_shown c p x f evs simple (ap (is_held_at_start c.tabs p) (same_context_is x y e) ∙ held));
   told = ft.told;
 }
 
@@ -144,39 +145,53 @@ take_shown true false None v st before is = refl
 take_shown true true (Some w) v st before is = refl
 take_shown true false (Some w) v st before is = ap (shown_after_take (Gives w) false st) (sym (is refl))
 
-pub field_took : (c : Config) (p : ℕ) (x : ContextId) (f : Field) (says : List Saying) (did : List Doing) (evs : List ProcessEvent) (n : ℕ) (d : Bundle (List DownPart)) (y : ContextId) (t : Changes)
-    → is_held_at_start c.tabs p y ≡ true → d.content ≡ downs.Commit y t ∷ [] → Ties c.tabs p says did evs n → FieldTies c p x f says did evs
-    → FieldTies c p x f says (did_at_take (own_asked c.tabs p did) d.epoch y t did) (Takes d ∷ evs)
+pub field_took : (c : Config) (p : ℕ) (x : ContextId) (f : Field) (says : List Saying) (did : List Doing) (evs : List ProcessEvent) (d : Bundle DownBundle) (y : ContextId) (t : Changes)
+    → is_held_at_start c.tabs p y ≡ true → d.content.parts ≡ downs.Commit y t ∷ [] → d.content.epoch.0 ≡ d.epoch → AreSimple evs → FieldTies c p x f says did evs
+    → FieldTies c p x f says (did_at_take (own_asked c.tabs p did) d.content.epoch.0 y t did) (Takes d ∷ evs)
 unfolding value newest
-field_took c p x f says did evs n d y t held is ties ft = record {
+field_took c p x f says did evs d y t held is stamped simple ft = record {
   apart = ft.apart;
   fits = (tt, ft.fits);
-  newest_is = ft.newest_is ∙ sym (number_plain (content_of x f d.content) (words.newest (trace_of x f evs)) (content_plain x f d.content));
+  newest_is = ft.newest_is ∙ sym (number_plain (content_of x f d.content.parts) (words.newest (trace_of x f evs)) (content_plain x f d.content.parts));
   shown =
       go (same_context x y) refl
       ∙ take_shown (same_context x y) (nat_lt d.epoch (words.newest (trace_of x f evs))) (new_value t f) (replay (begin c p x f) (trace_of x f evs))
       (stage (begin c p x f).stage (trace_of x f evs)) (kept (begin c p x f) (trace_of x f evs))
-      (λ e. held_shown c p x f evs ties.simple (ap (is_held_at_start c.tabs p) (same_context_is x y e) ∙ held))
+      (λ e. held_shown c p x f evs simple (ap (is_held_at_start c.tabs p) (same_context_is x y e) ∙ held))
       ∙ ap (λ (ds : List DownPart). shown_after_take (content_of x f ds) (nat_lt d.epoch (words.newest (trace_of x f evs))) (stage (begin c p x f).stage (trace_of x f evs)) (replay (begin c p x f) (trace_of x f evs))) (sym is);
   told = ft.told;
 }
   where
     fresh : Changes
-    fresh = changes_where (is_noted is_applied (taken_notes d.epoch (own_asked c.tabs p did) y t)) t
+    fresh = changes_where (is_noted is_applied (taken_notes d.content.epoch.0 (own_asked c.tabs p did) y t)) t
 
-    obsolete : same_context x y ≡ true → nat_lt d.epoch (newest y f did) ≡ nat_lt d.epoch (words.newest (trace_of x f evs))
-    obsolete e = ap (λ z. nat_lt d.epoch (newest z f did)) (sym (same_context_is x y e)) ∙ ap (nat_lt d.epoch) ft.newest_is
+    obsolete : same_context x y ≡ true → nat_lt d.content.epoch.0 (newest y f did) ≡ nat_lt d.epoch (words.newest (trace_of x f evs))
+    obsolete e = ap (λ z. nat_lt d.content.epoch.0 (newest z f did)) (sym (same_context_is x y e)) ∙ ap (nat_lt d.content.epoch.0) ft.newest_is ∙ ap (λ k. nat_lt k (words.newest (trace_of x f evs))) stamped
 
     fresh_value : same_context x y ≡ true → new_value fresh f ≡ (if not (nat_lt d.epoch (words.newest (trace_of x f evs))) then new_value t f else None)
     fresh_value e =
-        marked_value is_applied (taken_mark d.epoch (own_asked c.tabs p did) y) t f
-        ∙ ap (λ b. if b then new_value t f else None) (mark_applied (nat_lt d.epoch (newest y f did)) ∙ ap not (obsolete e))
+        marked_value is_applied (taken_mark d.content.epoch.0 (own_asked c.tabs p did) y) t f
+        ∙ ap (λ b. if b then new_value t f else None) (mark_applied (nat_lt d.content.epoch.0 (newest y f did)) ∙ ap not (obsolete e))
 
     go : (b : Bool) → same_context x y ≡ b
         → (if b then or_later (new_value fresh f) (value c.tabs p x f did) else value c.tabs p x f did)
         ≡ (if b then or_later (if not (nat_lt d.epoch (words.newest (trace_of x f evs))) then new_value t f else None) (replay (begin c p x f) (trace_of x f evs)) else replay (begin c p x f) (trace_of x f evs))
     go true e = ap₂ or_later (fresh_value e) ft.shown
     go false e = ft.shown
+
+-- it is told to stop
+pub field_stopped : (c : Config) (p : ℕ) (x : ContextId) (f : Field) (says : List Saying) (did : List Doing) (evs : List ProcessEvent) (d : Bundle DownBundle) → d.content.parts ≡ downs.Kill ∷ []
+    → FieldTies c p x f says did evs → FieldTies c p x f says (Took ∷ Stopped ∷ did) (Takes d ∷ evs)
+unfolding value newest
+field_stopped c p x f says did evs d is ft = record {
+  apart = ft.apart;
+  fits = (tt, ft.fits);
+  newest_is = ft.newest_is ∙ sym (number_plain (content_of x f d.content.parts) (words.newest (trace_of x f evs)) (content_plain x f d.content.parts));
+  shown =
+      ft.shown
+      ∙ ap (λ (ds : List DownPart). shown_after_take (content_of x f ds) (nat_lt d.epoch (words.newest (trace_of x f evs))) (stage (begin c p x f).stage (trace_of x f evs)) (replay (begin c p x f) (trace_of x f evs))) (sym is);
+  told = ft.told;
+}
 
 -- ---- entries of the parent
 
@@ -191,52 +206,75 @@ pub record TellsField (c : Config) (p : ℕ) (x : ContextId) (f : Field) (new : 
   pub held : is_held_at_start c.tabs p x ≡ true → content_of x f parts ≡ given (value_said x f new) Nothing
   pub unheld : is_held_at_start c.tabs p x ≡ false → content_of x f parts ≡ Nothing
 
-never_served : (c : Config) (p : ℕ) (x : ContextId) (f : Field) (evs : List ProcessEvent) → AreSimple evs → is_held_at_start c.tabs p x ≡ false
+-- what isn't held is never served, nor is anything behind the end of the process
+never_served : (c : Config) (p : ℕ) (x : ContextId) (f : Field) (evs : List ProcessEvent) → AreSimple evs → is_ended evs ≡ false → is_held_at_start c.tabs p x ≡ false
     → stage_served (begin c p x f).stage (trace_of x f evs) ≡ Held → ⊥
-never_served c p x f evs s free e = begin_coming c p x f free (sym (served_is x f (begin c p x f).stage evs s) ∙ e)
+never_served c p x f evs s alive free e = begin_coming c p x f free (sym (served_is x f (begin c p x f).stage evs s alive) ∙ e)
+
+gone_unserved : (c : Config) (p : ℕ) (x : ContextId) (f : Field) (evs : List ProcessEvent) → AreSimple evs → Flows evs → is_ended evs ≡ true → stage_served (begin c p x f).stage (trace_of x f evs) ≡ Held → ⊥
+gone_unserved c p x f evs s flows over e = let two : Gone ≡ Held = sym (gone_is x f (begin c p x f).stage evs s flows over) ∙ e in cc
 
 pub field_unsent : (c : Config) (p : ℕ) (x : ContextId) (f : Field) (says new : List Saying) (did : List Doing) (evs : List ProcessEvent) (n : ℕ)
-    → TellsField c p x f new [] → Ties c.tabs p says did evs n → FieldTies c p x f says did evs
+    → (is_ended evs ≡ false → TellsField c p x f new []) → AreSimple evs → Flows evs → FieldTies c p x f says did evs
     → FieldTies c p x f (new ++ says) did (OthersChange (n + 1) (Said new) ∷ evs)
-field_unsent c p x f says new did evs n tells ties ft = record {
+field_unsent c p x f says new did evs n tells simple flows ft = record {
   apart = ft.apart;
-  fits = ((λ alive. go (is_held_at_start c.tabs p x) refl), ft.fits);
+  fits = ((λ alive. by_end (is_ended evs) refl), ft.fits);
   newest_is = ft.newest_is;
   shown = ft.shown;
   told = λ live. value_told c.tabs x f new says (value_said x f new) (words.value (initial f) (trace_of x f evs)) refl (ft.told live);
 }
   where
-    go : (b : Bool) → is_held_at_start c.tabs p x ≡ b → Where (value_said x f new) (stage_served (begin c p x f).stage (trace_of x f evs) ≡ Held → ⊥)
-    go true held = where_none (value_said x f new) (stage_served (begin c p x f).stage (trace_of x f evs) ≡ Held → ⊥) (given_nothing (value_said x f new) (tells.held held))
-    go false free = where_all (value_said x f new) (stage_served (begin c p x f).stage (trace_of x f evs) ≡ Held → ⊥) (never_served c p x f evs ties.simple free)
+    go : is_ended evs ≡ false → (b : Bool) → is_held_at_start c.tabs p x ≡ b → Where (value_said x f new) (stage_served (begin c p x f).stage (trace_of x f evs) ≡ Held → ⊥)
+    go alive true held = where_none (value_said x f new) (stage_served (begin c p x f).stage (trace_of x f evs) ≡ Held → ⊥) (given_nothing (value_said x f new) ((tells alive).held held))
+    go alive false free = where_all (value_said x f new) (stage_served (begin c p x f).stage (trace_of x f evs) ≡ Held → ⊥) (never_served c p x f evs simple alive free)
+
+    by_end : (b : Bool) → is_ended evs ≡ b → Where (value_said x f new) (stage_served (begin c p x f).stage (trace_of x f evs) ≡ Held → ⊥)
+    by_end true over = where_all (value_said x f new) (stage_served (begin c p x f).stage (trace_of x f evs) ≡ Held → ⊥) (gone_unserved c p x f evs simple flows over)
+    by_end false alive = go alive (is_held_at_start c.tabs p x) refl
 
 tells_given : (start : Start Value) (u : Option Value) (h : Trace Value) → stage_served start.stage h ≡ Held → Tells start u (given u Nothing) h
 tells_given start None h held = tt
 tells_given start (Some v) h held = (refl, held)
 
-pub field_sent : (c : Config) (p : ℕ) (x : ContextId) (f : Field) (says new : List Saying) (did : List Doing) (evs : List ProcessEvent) (n : ℕ) (parts : List DownPart)
-    → TellsField c p x f new parts → Ties c.tabs p says did evs n → FieldTies c p x f says did evs
-    → FieldTies c p x f (new ++ says) did (Sends (n + 1) (Said new) parts ∷ evs)
-field_sent c p x f says new did evs n parts tells ties ft = record {
-  apart = ((λ some. omega (arith, ties.now_is)), ft.apart);
-  fits = ((λ alive. go (is_held_at_start c.tabs p x) refl), ft.fits);
+pub field_sent : (c : Config) (p : ℕ) (x : ContextId) (f : Field) (says new : List Saying) (did : List Doing) (evs : List ProcessEvent) (e : ℕ) (d : DownBundle)
+    → TellsField c p x f new d.parts → AreSimple evs → is_ended evs ≡ false → (is_some (value_said x f new) ≡ true → now evs < e) → FieldTies c p x f says did evs
+    → FieldTies c p x f (new ++ says) did (Sends e (Said new) d ∷ evs)
+field_sent c p x f says new did evs e d tells simple alive later ft = record {
+  apart = (later, ft.apart);
+  fits = ((λ there. go (is_held_at_start c.tabs p x) refl), ft.fits);
   newest_is = ft.newest_is;
   shown = ft.shown;
   told = λ live. value_told c.tabs x f new says (value_said x f new) (words.value (initial f) (trace_of x f evs)) refl (ft.told live);
 }
   where
-    go : (b : Bool) → is_held_at_start c.tabs p x ≡ b → Tells (begin c p x f) (value_said x f new) (content_of x f parts) (trace_of x f evs)
+    go : (b : Bool) → is_held_at_start c.tabs p x ≡ b → Tells (begin c p x f) (value_said x f new) (content_of x f d.parts) (trace_of x f evs)
     go true held =
         subst (λ u. Tells (begin c p x f) (value_said x f new) u (trace_of x f evs)) (sym (tells.held held))
-        (tells_given (begin c p x f) (value_said x f new) (trace_of x f evs) (served_is x f (begin c p x f).stage evs ties.simple ∙ begin_held c p x f held))
+        (tells_given (begin c p x f) (value_said x f new) (trace_of x f evs) (served_is x f (begin c p x f).stage evs simple alive ∙ begin_held c p x f held))
     go false free =
         subst (λ u. Tells (begin c p x f) (value_said x f new) u (trace_of x f evs)) (sym (tells.unheld free))
-        (where_all (value_said x f new) (stage_served (begin c p x f).stage (trace_of x f evs) ≡ Held → ⊥) (never_served c p x f evs ties.simple free))
+        (where_all (value_said x f new) (stage_served (begin c p x f).stage (trace_of x f evs) ≡ Held → ⊥) (never_served c p x f evs simple alive free))
+
+-- the process is ended
+pub field_ended : (c : Config) (p : ℕ) (x : ContextId) (f : Field) (says : List Saying) (did : List Doing) (evs : List ProcessEvent) → FieldTies c p x f says did evs → FieldTies c p x f says did (Ends ∷ evs)
+field_ended c p x f says did evs ft = record { apart = ft.apart; fits = (tt, ft.fits); newest_is = ft.newest_is; shown = ft.shown; told = ft.told }
+
+-- a bundle of a process that was ended is heard
+pub field_ignored : (c : Config) (p : ℕ) (x : ContextId) (f : Field) (says : List Saying) (did : List Doing) (evs : List ProcessEvent) (e : ℕ) (w : Written)
+    → AreSimple evs → Flows evs → is_ended evs ≡ true → FieldTies c p x f says did evs → FieldTies c p x f says did (Ignores e w ∷ evs)
+field_ignored c p x f says did evs e w simple flows over ft = record {
+  apart = ft.apart;
+  fits = ((λ there. where_all (value_written x f w) (Judges (begin c p x f) (trace_of x f evs) → ⊥) (unjudged (begin c p x f) x f evs simple flows over)), ft.fits);
+  newest_is = ft.newest_is;
+  shown = ft.shown;
+  told = ft.told;
+}
 
 pub field_heard : (c : Config) (p : ℕ) (x : ContextId) (f : Field) (says new : List Saying) (did : List Doing) (evs : List ProcessEvent) (n k sent : ℕ) (w : Written)
-    → IsHonest c.tabs p sent k w → value_said x f new ≡ value_written x f w → Ties c.tabs p says did evs n → FieldTies c p x f says did evs
+    → IsHonest c.tabs p sent k w → value_said x f new ≡ value_written x f w → AreSimple evs → Flows evs → Rises evs → is_ended evs ≡ false → FieldTies c p x f says did evs
     → FieldTies c p x f (new ++ says) did (Accepts (n + 1) w ∷ evs)
-field_heard c p x f says new did evs n k sent w honest said ties ft = record {
+field_heard c p x f says new did evs n k sent w honest said simple flows rises over ft = record {
   apart = ft.apart;
   fits = ((λ alive. go (is_held_at_start c.tabs p x) refl), ft.fits);
   newest_is = ft.newest_is;
@@ -245,7 +283,7 @@ field_heard c p x f says new did evs n k sent w honest said ties ft = record {
 }
   where
     go : (b : Bool) → is_held_at_start c.tabs p x ≡ b → Where (value_written x f w) (Judges (begin c p x f) (trace_of x f evs))
-    go true held = where_all (value_written x f w) (Judges (begin c p x f) (trace_of x f evs)) (judged (begin c p x f) x f evs ties.simple ties.flows ties.rises ft.apart (begin_held c p x f held))
+    go true held = where_all (value_written x f w) (Judges (begin c p x f) (trace_of x f evs)) (judged (begin c p x f) x f evs simple flows rises ft.apart over (begin_held c p x f held))
     go false free =
         where_none (value_written x f w) (Judges (begin c p x f) (trace_of x f evs))
         (ap (value_written x f) honest.is ∙ no_later (value_for x f honest.context honest.changes) ∙ none_for c.tabs p x f honest.context honest.changes honest.held free)
@@ -288,21 +326,21 @@ answer_sent_back start k v back h is judges fits = record {
   value = refl;
 }
 
-pub field_reverted : (c : Config) (p : ℕ) (x : ContextId) (f : Field) (says new : List Saying) (did : List Doing) (evs : List ProcessEvent) (n k sent : ℕ) (w : Written) (parts : List DownPart)
+pub field_reverted : (c : Config) (p : ℕ) (x : ContextId) (f : Field) (says new : List Saying) (did : List Doing) (evs : List ProcessEvent) (n k sent : ℕ) (w : Written) (d : DownBundle)
     → IsHonest c.tabs p sent k w
-    → (WasApplied (value_written x f w) (value_said x f new) (content_of x f parts) ⊎ WasSentBack (parent.value c.tabs x f says) (value_written x f w) (value_said x f new) (content_of x f parts))
-    → Ties c.tabs p says did evs n → FieldTies c p x f says did evs
-    → FieldTies c p x f (new ++ says) did (Reverts (n + 1) w parts ∷ evs)
-field_reverted c p x f says new did evs n k sent w parts honest either ties ft = go either
+    → (WasApplied (value_written x f w) (value_said x f new) (content_of x f d.parts) ⊎ WasSentBack (parent.value c.tabs x f says) (value_written x f w) (value_said x f new) (content_of x f d.parts))
+    → AreSimple evs → Flows evs → Rises evs → is_ended evs ≡ false → FieldTies c p x f says did evs
+    → FieldTies c p x f (new ++ says) did (Reverts (n + 1) w d ∷ evs)
+field_reverted c p x f says new did evs n k sent w d honest either simple flows rises over ft = go either
   where
     judges : is_held_at_start c.tabs p x ≡ true → Judges (begin c p x f) (trace_of x f evs)
-    judges held = judged (begin c p x f) x f evs ties.simple ties.flows ties.rises ft.apart (begin_held c p x f held)
+    judges held = judged (begin c p x f) x f evs simple flows rises ft.apart over (begin_held c p x f held)
 
     unwritten : is_held_at_start c.tabs p x ≡ false → value_written x f w ≡ None
     unwritten free = ap (value_written x f) honest.is ∙ no_later (value_for x f honest.context honest.changes) ∙ none_for c.tabs p x f honest.context honest.changes honest.held free
 
-    done : (u : Option Value) → value_said x f new ≡ u → Answered (begin c p x f) u (trace_of x f evs) (reverted_for (n + 1) (value_written x f w) (content_of x f parts) (trace_of x f evs))
-        → FieldTies c p x f (new ++ says) did (Reverts (n + 1) w parts ∷ evs)
+    done : (u : Option Value) → value_said x f new ≡ u → Answered (begin c p x f) u (trace_of x f evs) (reverted_for (n + 1) (value_written x f w) (content_of x f d.parts) (trace_of x f evs))
+        → FieldTies c p x f (new ++ says) did (Reverts (n + 1) w d ∷ evs)
     done u said a = record {
       apart = ft.apart;
       fits = a.fits;
@@ -318,14 +356,14 @@ field_reverted c p x f says new did evs n k sent w parts honest either ties ft =
     some_none : (v : Value) → Some v ≡ None → ⊥
     some_none v e = cc
 
-    sent_back : (b : Bool) → is_held_at_start c.tabs p x ≡ b → (s : WasSentBack (parent.value c.tabs x f says) (value_written x f w) (value_said x f new) (content_of x f parts))
+    sent_back : (b : Bool) → is_held_at_start c.tabs p x ≡ b → (s : WasSentBack (parent.value c.tabs x f says) (value_written x f w) (value_said x f new) (content_of x f d.parts))
         → Answered (begin c p x f) None (trace_of x f evs) (reverted_for (n + 1) (Some s.value) (Gives s.back) (trace_of x f evs))
     sent_back true held s =
         answer_sent_back (begin c p x f) (n + 1) s.value s.back (trace_of x f evs) (some_is s.back (words.value (initial f) (trace_of x f evs)) (sym s.present ∙ ft.told (held_live c.tabs p x held))) (judges held) ft.fits
     sent_back false free s = absurd (some_none s.value (sym s.written ∙ unwritten free))
 
-    go : (WasApplied (value_written x f w) (value_said x f new) (content_of x f parts) ⊎ WasSentBack (parent.value c.tabs x f says) (value_written x f w) (value_said x f new) (content_of x f parts))
-        → FieldTies c p x f (new ++ says) did (Reverts (n + 1) w parts ∷ evs)
+    go : (WasApplied (value_written x f w) (value_said x f new) (content_of x f d.parts) ⊎ WasSentBack (parent.value c.tabs x f says) (value_written x f w) (value_said x f new) (content_of x f d.parts))
+        → FieldTies c p x f (new ++ says) did (Reverts (n + 1) w d ∷ evs)
     go (inl a) =
         done (value_written x f w) a.said
         (subst (λ (o : Content Value). Answered (begin c p x f) (value_written x f w) (trace_of x f evs) (reverted_for (n + 1) (value_written x f w) o (trace_of x f evs))) (sym a.nothing)

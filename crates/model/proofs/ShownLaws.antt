@@ -6,9 +6,10 @@ use Rattle.field_table.specs.declared.field.Field.{Field}
 use Rattle.field_table.specs.declared.value.Value.{Value}
 use Rattle.wire_msgs.specs.declared.config.Config.{Config}
 use Rattle.wire_msgs.specs.declared.config.StartTab.{StartTab}
-use Rattle.wire_msgs.specs.declared.part.DownPart.{DownPart}
+use Rattle.wire_msgs.specs.declared.bundle.DownBundle.{DownBundle}
 use Rattle.protocol.specs.Outside.{told_allowed}
-use Rattle.traces.specs.Event.Event.{Reverts, Does, Ends}
+use Rattle.traces.specs.Event.{Bundle}
+use Rattle.traces.specs.Event.Event.{Reverts, Does}
 use Rattle.traces.specs.Links.{writes_waiting, bundles_waiting}
 use Rattle.traces.specs.Field.{Content, FieldEvent, Trace, bundle_for, reverted_for}
 use Rattle.traces.specs.Field.Content.{Nothing, Gives, Begins, Removes, Leaves}
@@ -19,17 +20,18 @@ use Rattle.traces.specs.Rules.{Keeps}
 use Rattle.traces.specs.Laws.{Projected}
 use Rattle.traces.proofs.Projection.{projection}
 use Rattle.traces.proofs.Quiet.{shows_the_view, never_falls, quiet}
-use Rattle.model.specs.Laws.{RunFits, ProcessShowsTheView, PointNeverFalls, QuietShowsTheParent}
-use Rattle.model.specs.Links.{own_bundles, is_nothing, up_waiting, down_waiting}
-use Rattle.model.specs.Moments.{Moment, Written, ProcessEvent, events_of, moment, moments_of, down_bundle}
-use Rattle.model.specs.Moments.Written.{Own, Said}
+use Rattle.model.specs.Laws.{RunFits, ProcessShowsTheView, PointNeverFalls, QuietShowsTheParent, HonestAreOnlyKilled}
+use Rattle.model.specs.Links.{bundles_in, is_nothing, up_waiting, down_waiting}
+use Rattle.model.specs.Moments.{Moment, Written, ProcessEvent, said, did_by, events_of, moment, moments_of}
+use Rattle.model.specs.Moments.Written.{Own, Raw, Said}
 use Rattle.model.specs.Next.{Run, run_with}
 use Rattle.model.specs.View.{value_written, content_of, look, begin, trace, view}
 use Rattle.model.proofs.TiesStart.{held_live}
-use Rattle.model.proofs.TiesTrace.{AreSimple, never_ended, stage_is}
+use Rattle.model.proofs.TiesTrace.{AreSimple, stage_is}
 use Rattle.model.proofs.Ties.{IsHonest, AreHonest}
 use Rattle.model.proofs.Shown.{trace_of}
-use Rattle.model.proofs.Keeping.{Tied_behind, tied}
+use Rattle.model.proofs.Tied.{Owned, Tied_behind, none_alive}
+use Rattle.model.proofs.Keeping.{tied}
 
 -- ---- the trace keeps the rules
 
@@ -37,24 +39,29 @@ abbrev pub Tied_run : Run → ℕ → Type 0
 Tied_run r p = Tied_behind r.config p (moments_of r.config r.journal)
 
 pub run_tied : (r : Run) (p : ℕ) → RunFits r → p < length r.config.types → Tied_run r p
-run_tied r p fits lt = tied r.config r.journal fits.steps p lt
+run_tied r p fits lt = tied r.config r.journal fits.config.few fits.steps p lt
+
+-- of an honest process
+abbrev pub Owned_behind : Config → ℕ → List Moment → Type 0
+Owned_behind c p ms = Owned c p (said ms) (did_by p ms) (events_of p ms)
 
 -- the projection of tied events
-same_links : (c : Config) (p : ℕ) (ms : List Moment) (x : ContextId) (f : Field) → Tied_behind c p ms → Projected (look x f) (events_of p ms)
-same_links c p ms x f t = projection Written (List DownPart) Value (look x f) (events_of p ms) t.links.flows t.links.rises (t.fields x f).apart
+same_links : (c : Config) (p : ℕ) (ms : List Moment) (x : ContextId) (f : Field) → Tied_behind c p ms → Owned_behind c p ms → Projected (look x f) (events_of p ms)
+same_links c p ms x f t o = projection Written DownBundle Value (look x f) (events_of p ms) t.links.flows t.links.rises (o.fields x f).apart
 
-pub trace_keeps : (c : Config) (p : ℕ) (ms : List Moment) (x : ContextId) (f : Field) → Tied_behind c p ms → Keeps (begin c p x f) (trace p x f ms)
-trace_keeps c p ms x f t =
-    let same : Projected (look x f) (events_of p ms) = same_links c p ms x f t in
-    record { flows = same.flows; ordered = same.ordered; fits = (t.fields x f).fits }
+pub trace_keeps : (c : Config) (p : ℕ) (ms : List Moment) (x : ContextId) (f : Field) → Tied_behind c p ms → Owned_behind c p ms → Keeps (begin c p x f) (trace p x f ms)
+trace_keeps c p ms x f t o =
+    let same : Projected (look x f) (events_of p ms) = same_links c p ms x f t o in
+    record { flows = same.flows; ordered = same.ordered; fits = (o.fields x f).fits }
 
 -- ---- a process shows its view
 
 pub process_shows : ProcessShowsTheView
 unfolding view
-process_shows r p x f fits lt =
+process_shows r p x f fits lt honest =
     let t : Tied_run r p = run_tied r p fits lt in
-    (t.fields x f).shown ∙ shows_the_view Value (begin r.config p x f) (trace p x f (moments_of r.config r.journal)) (trace_keeps r.config p (moments_of r.config r.journal) x f t)
+    let o : Owned_behind r.config p (moments_of r.config r.journal) = t.own honest in
+    (o.fields x f).shown ∙ shows_the_view Value (begin r.config p x f) (trace p x f (moments_of r.config r.journal)) (trace_keeps r.config p (moments_of r.config r.journal) x f t o)
 
 -- ---- the point never falls
 
@@ -85,19 +92,18 @@ event_back g j (Some v) Leaves k before = two_events g k before
 
 more_events : (start : Start Value) (x : ContextId) (f : Field) (new evs : List ProcessEvent) → AreSimple (new ++ evs) → Keeps start (trace_of x f (new ++ evs)) → Rises_to (trace_of x f evs) (trace_of x f (new ++ evs))
 more_events start x f [] evs s k = (omega arith, omega arith)
-more_events start x f (Reverts j w c ∷ new) evs s k = event_back (trace_of x f evs) j (value_written x f w) (content_of x f c) k (more_events start x f new evs s)
+more_events start x f (Reverts j w c ∷ new) evs s k = event_back (trace_of x f evs) j (value_written x f w) (content_of x f c.parts) k (more_events start x f new evs s)
 more_events start x f (Does c ∷ new) evs s k = absurd s
-more_events start x f (Ends ∷ new) evs s k = absurd s
 more_events start x f (_ ∷ new) evs s k = one_event (trace_of x f evs) k (more_events start x f new evs s)
 
 pub never_fall : PointNeverFalls
 unfolding moments_of
-never_fall r e p x f fits lt =
+never_fall r e p x f fits lt honest =
     let c : Config = r.config in
     let ms : List Moment = moments_of c r.journal in
     let m : Moment = moment c ms (told_allowed e.answer) e.step in
     let t : Tied_behind c p (m ∷ ms) = run_tied (run_with r e) p fits lt in
-    more_events (begin c p x f) x f (m.events p) (events_of p ms) t.links.simple (trace_keeps c p (m ∷ ms) x f t)
+    more_events (begin c p x f) x f (m.events p) (events_of p ms) t.links.simple (trace_keeps c p (m ∷ ms) x f t (t.own honest))
 
 -- ---- quiet links
 
@@ -110,23 +116,33 @@ none_mapped f [] e = refl
 none_mapped f (x ∷ xs) e = absurd cc
 
 -- all that waits from a process are its bundles
-no_writes : (tabs : List StartTab) (p sent k : ℕ) (ws : List Written) → AreHonest tabs p sent k ws → is_nothing (own_bundles ws) ≡ true → ws ≡ []
+no_writes : (tabs : List StartTab) (p sent k : ℕ) (ws : List Written) → AreHonest tabs p sent k ws → is_nothing (bundles_in ws) ≡ true → ws ≡ []
 no_writes tabs p sent k [] all e = refl
 no_writes tabs p sent k (Own b ∷ ws) all e = absurd cc
+no_writes tabs p sent k (Raw b ∷ ws) all e = absurd cc
 no_writes tabs p sent k (Said says ∷ ws) all e = let h : IsHonest tabs p sent k (Said says) = all.0 in let two : Said says ≡ Own _ = h.is in absurd cc
 
+content_in : Bundle DownBundle → DownBundle
+content_in b = b.content
+
 pub quiet_shows : QuietShowsTheParent
-unfolding view
-quiet_shows r p x f fits lt nothing held =
+unfolding view content_in
+quiet_shows r p x f fits lt honest alive nothing held =
     let c : Config = r.config in
     let ms : List Moment = moments_of c r.journal in
     let t : Tied_run r p = run_tied r p fits lt in
-    let same : Projected (look x f) (events_of p ms) = same_links c p ms x f t in
+    let o : Owned_behind c p ms = t.own honest in
+    let same : Projected (look x f) (events_of p ms) = same_links c p ms x f t o in
     let empty : (is_nothing (up_waiting p ms) ≡ true) × (is_nothing (down_waiting p ms) ≡ true) = and_parts (is_nothing (up_waiting p ms)) (is_nothing (down_waiting p ms)) nothing in
-    let up : writes_waiting (trace p x f ms) ≡ [] = same.writes_wait ∙ ap (map (look x f).value_in) (no_writes c.tabs p _ _ (writes_waiting (events_of p ms)) t.links.honest empty.0) in
-    let down : bundles_waiting (trace p x f ms) ≡ [] = same.bundles_wait ∙ ap (map (bundle_for (look x f).content_in)) (none_mapped down_bundle (bundles_waiting (events_of p ms)) empty.1) in
+    let up : writes_waiting (trace p x f ms) ≡ [] = same.writes_wait ∙ ap (map (look x f).value_in) (no_writes c.tabs p _ _ (writes_waiting (events_of p ms)) o.links.honest empty.0) in
+    let down : bundles_waiting (trace p x f ms) ≡ [] = same.bundles_wait ∙ ap (map (bundle_for (look x f).content_in)) (none_mapped content_in (bundles_waiting (events_of p ms)) empty.1) in
     let in_stage : stage (begin c p x f).stage (trace p x f ms) ≡ Held = stage_is x f (begin c p x f).stage (events_of p ms) t.links.simple ∙ ap (λ (b : Bool). if b then Held else Coming) held in
-    let keeps : Keeps (begin c p x f) (trace p x f ms) = trace_keeps c p ms x f t in
+    let keeps : Keeps (begin c p x f) (trace p x f ms) = trace_keeps c p ms x f t o in
     sym (shows_the_view Value (begin c p x f) (trace p x f ms) keeps)
-    ∙ quiet Value (begin c p x f) (trace p x f ms) keeps (same.same_end ∙ never_ended (events_of p ms) t.links.simple) in_stage up down
-    ∙ sym ((t.fields x f).told (held_live c.tabs p x held))
+    ∙ quiet Value (begin c p x f) (trace p x f ms) keeps (same.same_end ∙ none_alive c p ms t alive) in_stage up down
+    ∙ sym ((o.fields x f).told (held_live c.tabs p x held))
+
+-- ---- who is ended
+
+pub only_killed : HonestAreOnlyKilled
+only_killed r p cause fits lt honest over = let t : Tied_run r p = run_tied r p fits lt in (t.own honest).links.killed cause over

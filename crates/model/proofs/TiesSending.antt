@@ -9,8 +9,10 @@ use Rattle.protocol.specs.Sayings.{Saying}
 use Rattle.protocol.specs.Sayings.Saying.{Sent}
 use Rattle.protocol.specs.Bundle.{is_no_bundle, after_sending}
 use Rattle.protocol.specs.FactsAfter.{raised}
-use Rattle.model.specs.Parent.{commits_heard, bundles_sent}
+use Rattle.model.specs.Moments.{ends}
+use Rattle.model.specs.Parent.{commits_heard, bundles_sent, ended}
 use Rattle.model.specs.View.{value_said}
+use Rattle.model.proofs.TiesStart.{AreNumbered}
 
 -- what is said behind the bundles that the first n processes are sent
 abbrev pub behind : (List Saying → Facts) → ℕ → (ℕ → List DownPart) → List Saying → List Saying
@@ -73,3 +75,31 @@ sent_at facts (suc n) sends says old p lt =
     go (inr ne) rest =
         ap (λ b. if b then raised (not (is_no_bundle (sends n))) (bundles_sent p (behind facts n sends says ++ old)) else bundles_sent p (behind facts n sends says ++ old)) (ne_eqb p n ne)
         ∙ rest (omega arith)
+
+-- ---- ends
+
+ended_either : (p n : ℕ) (b : Bool) (says old : List Saying) → ended p ((if b then says else Sent n ∷ says) ++ old) ≡ ended p (says ++ old)
+unfolding ended
+ended_either p n true says old = refl
+ended_either p n false says old = refl
+
+-- nobody is ended by it
+pub sent_ended : (facts : List Saying → Facts) (n : ℕ) (sends : ℕ → List DownPart) (says old : List Saying) (p : ℕ) → ended p (behind facts n sends says ++ old) ≡ ended p (says ++ old)
+sent_ended facts zero sends says old p = refl
+sent_ended facts (suc n) sends says old p = ended_either p n (is_no_bundle (sends n)) (behind facts n sends says) old ∙ sent_ended facts n sends says old p
+
+ends_either : (p n : ℕ) (b : Bool) (says : List Saying) → ends p (if b then says else Sent n ∷ says) ≡ ends p says
+ends_either p n true says = refl
+ends_either p n false says = refl
+
+pub sent_ends : (facts : List Saying → Facts) (n : ℕ) (sends : ℕ → List DownPart) (says : List Saying) (p : ℕ) → ends p (behind facts n sends says) ≡ ends p says
+sent_ends facts zero sends says p = refl
+sent_ends facts (suc n) sends says p = ends_either p n (is_no_bundle (sends n)) (behind facts n sends says) ∙ sent_ends facts n sends says p
+
+numbered_either : (n : ℕ) (b : Bool) (says old : List Saying) → AreNumbered (says ++ old) → AreNumbered ((if b then says else Sent n ∷ says) ++ old)
+numbered_either n true says old all = all
+numbered_either n false says old all = all
+
+pub sent_numbered : (facts : List Saying → Facts) (n : ℕ) (sends : ℕ → List DownPart) (says old : List Saying) → AreNumbered (says ++ old) → AreNumbered (behind facts n sends says ++ old)
+sent_numbered facts zero sends says old all = all
+sent_numbered facts (suc n) sends says old all = numbered_either n (is_no_bundle (sends n)) (behind facts n sends says) old (sent_numbered facts n sends says old all)

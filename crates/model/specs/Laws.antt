@@ -1,5 +1,5 @@
 -- What holds of every journal whose steps can be played.
-use Rattle.std.specs.Prelude.{◌≡◌, ℕ, ◌+◌, ◌≤◌, ◌<◌, List, ◌∷◌, length, Bool, true, false, Some}
+use Rattle.std.specs.Prelude.{◌≡◌, ℕ, ◌+◌, ◌≤◌, ◌<◌, ◌==◌, List, ◌∷◌, length, Bool, true, false, None, Some}
 use Rattle.std.specs.List.{AllByRecursion}
 use Rattle.fission_ids.specs.declared.context.ContextId.{ContextId}
 use Rattle.fission_ids.specs.declared.process.ProcId.{ProcId}
@@ -7,12 +7,15 @@ use Rattle.field_table.specs.declared.field.Field.{Field}
 use Rattle.field_rules.specs.Bounds.{Bounds}
 use Rattle.wire_msgs.specs.Config.{ConfigFits}
 use Rattle.wire_msgs.specs.declared.answer.Answer.{Answer}
-use Rattle.wire_msgs.specs.declared.answer.Answer.TheVariants.{Refused}
+use Rattle.wire_msgs.specs.declared.answer.Answer.TheVariants.{Refused, Ended}
+use Rattle.wire_msgs.specs.declared.cause.EndCause.{EndCause}
+use Rattle.wire_msgs.specs.declared.cause.EndCause.TheVariants.{Killed}
 use Rattle.wire_msgs.specs.declared.config.Config.{Config}
 use Rattle.journal.specs.Step.{StepFits}
 use Rattle.journal.specs.declared.entry.Entry.{Entry}
 use Rattle.journal.specs.declared.entry.Step.{Step}
-use Rattle.journal.specs.declared.entry.Step.TheVariants.{Take}
+use Rattle.journal.specs.declared.entry.Step.TheVariants.{Take, Hear}
+use Rattle.protocol.specs.Questions.{is_owner}
 use Rattle.protocol.specs.Start.{is_held_at_start}
 use Rattle.model.specs.Journal.{steps_of}
 use Rattle.model.specs.Links.{is_quiet, up_waiting, down_waiting}
@@ -20,52 +23,58 @@ use Rattle.model.specs.Moments.{Moment, moment, moments_of, seen_now, facts_now}
 use Rattle.model.specs.Next.{Run, run_with, run_after}
 use Rattle.model.specs.Settling.{weight, settled, IsServed, Extends}
 use Rattle.model.specs.View.{view, parent_view, base, point, value_at, newest, is_answered}
-use Rattle.model.specs.View.{IsOnItsWay, reverted_in, sent_first}
+use Rattle.model.specs.View.{IsOnItsWay, reverted_in, sent_first, is_honest}
 
 -- a run that can be played
 pub record RunFits (r : Run) : Type 0 where
   pub config : ConfigFits r.config
   pub steps : AllByRecursion (StepFits (length r.config.types)) (steps_of r.journal)
 
--- what a process answers of a field is its view
+-- what an honest process answers of a field is its view
 abbrev pub ProcessShowsTheView : Type 0
 ProcessShowsTheView =
     (r : Run) (p : ℕ) (x : ContextId) (f : Field) → RunFits r → p < length r.config.types
+    → is_honest r.config p r.journal ≡ true
     → (seen_now r.config p (moments_of r.config r.journal)).value x f ≡ view r.config p x f r.journal
 
--- a further entry never lowers a base or a point
+-- a further entry never lowers a base or a point of an honest process
 abbrev pub PointNeverFalls : Type 0
 PointNeverFalls =
     (r : Run) (e : Entry) (p : ℕ) (x : ContextId) (f : Field) → RunFits (run_with r e)
-    → p < length r.config.types
+    → p < length r.config.types → is_honest r.config p (run_with r e).journal ≡ true
     → (base r.config p x f r.journal ≤ base r.config p x f (run_with r e).journal)
     × (point r.config p x f r.journal ≤ point r.config p x f (run_with r e).journal)
 
--- a process with nothing on its links shows what the parent shows of each context that it holds
+-- an honest process that wasn't ended, with nothing on its links, shows what the parent shows of each context
+-- that it holds
 abbrev pub QuietShowsTheParent : Type 0
 QuietShowsTheParent =
     (r : Run) (p : ℕ) (x : ContextId) (f : Field) → RunFits r → p < length r.config.types
+    → is_honest r.config p r.journal ≡ true
+    → (facts_now r.config (moments_of r.config r.journal)).processes.ended p ≡ None
     → is_quiet r.config p r.journal ≡ true
     → is_held_at_start r.config.tabs p x ≡ true
     → view r.config p x f r.journal ≡ parent_view r.config x f r.journal
 
--- as a process takes the bundle that reverts its newest write to a field, it shows the parent's value at the
--- entry that sent it
+-- as an honest process takes the bundle that reverts its newest write to a field, it shows the parent's
+-- value at the entry that sent it
 abbrev pub RevertTakenShowsTheParent : Type 0
 RevertTakenShowsTheParent =
     (r : Run) (a : Answer) (p : ProcId) (x : ContextId) (f : Field) (k : ℕ)
     → RunFits (run_with r (record { step = Take p; answer = a }))
+    → is_honest r.config p.0 r.journal ≡ true
     → is_held_at_start r.config.tabs p.0 x ≡ true
     → sent_first r.config p.0 r.journal ≡ Some k
     → reverted_in (newest r.config p.0 x f r.journal) r.config p.0 x f r.journal ≡ Some k
     → view r.config p.0 x f (record { step = Take p; answer = a } ∷ r.journal) ≡
     Some (value_at r.config p.0 x f k r.journal)
 
--- a reverted write that isn't answered has its revert on its way: the parent's value at the entry that sent
--- it
+-- a reverted write of an honest process that isn't answered has its revert on its way: the parent's value at
+-- the entry that sent it
 abbrev pub RevertsWait : Type 0
 RevertsWait =
     (r : Run) (p : ℕ) (x : ContextId) (f : Field) (n k : ℕ) → RunFits r → p < length r.config.types
+    → is_honest r.config p r.journal ≡ true
     → reverted_in n r.config p x f r.journal ≡ Some k
     → is_answered n r.config p x f r.journal ≡ false
     → IsOnItsWay k (value_at r.config p x f k r.journal) r.config p x f r.journal
@@ -103,3 +112,32 @@ abbrev pub RefusedChangesNothing : Type 0
 RefusedChangesNothing =
     (c : Config) (ms : List Moment) (allows : Field → Bool) (s : Step)
     → is_refused (moment c ms allows s).answer ≡ true → Unchanged c (moment c ms allows s) ms
+
+-- ---- the end of a process
+
+-- an honest process is ended by a kill alone
+abbrev pub HonestAreOnlyKilled : Type 0
+HonestAreOnlyKilled =
+    (r : Run) (p : ℕ) (cause : EndCause) → RunFits r → p < length r.config.types
+    → is_honest r.config p r.journal ≡ true
+    → (facts_now r.config (moments_of r.config r.journal)).processes.ended p ≡ Some cause → cause ≡ Killed
+
+-- an entry ended process p, which owns no context any more; it left all else of the contexts, what each
+-- process answers, and what waits on the links of the others
+pub record EndsAlone (c : Config) (p : ℕ) (m : Moment) (ms : List Moment) : Type 0 where
+  pub ended : (facts_now c (m ∷ ms)).processes.ended p ≡ None → ⊥
+  pub contexts : record (facts_now c (m ∷ ms)).contexts { owner = (facts_now c ms).contexts.owner }
+      ≡ (facts_now c ms).contexts
+  pub owned : (x : ContextId) → is_owner (facts_now c (m ∷ ms)) p x ≡ false
+  pub owners : (x : ContextId) → is_owner (facts_now c ms) p x ≡ false
+      → (facts_now c (m ∷ ms)).contexts.owner x ≡ (facts_now c ms).contexts.owner x
+  pub seen : (q : ℕ) → seen_now c q (m ∷ ms) ≡ seen_now c q ms
+  pub ups : (q : ℕ) → (q == p) ≡ false → up_waiting q (m ∷ ms) ≡ up_waiting q ms
+  pub downs : (q : ℕ) → (q == p) ≡ false → down_waiting q (m ∷ ms) ≡ down_waiting q ms
+
+-- a bundle that ends its sender does nothing else
+abbrev pub EndChangesNothingElse : Type 0
+EndChangesNothingElse =
+    (c : Config) (ms : List Moment) (allows : Field → Bool) (p : ProcId) (cause : EndCause)
+    → (moment c ms allows (Hear p)).answer ≡ Ended cause
+    → EndsAlone c p.0 (moment c ms allows (Hear p)) ms

@@ -1,42 +1,44 @@
 -- What each entry came to, by looking back through those before it.
 use Rattle.std.specs.Prelude.{ℕ, ◌+◌, ◌==◌, Bool, true, false, if◌then◌else◌}
 use Rattle.std.specs.Prelude.{List, [], ◌∷◌, ◌++◌, length, Option, None, Some}
+use Rattle.std.specs.List.{list_any}
 use Rattle.field_table.specs.declared.field.Field.{Field}
 use Rattle.wire_msgs.specs.declared.action.Action.{Action}
 use Rattle.wire_msgs.specs.declared.answer.Answer.{Answer}
-use Rattle.wire_msgs.specs.declared.answer.Answer.TheVariants.{Parts, Refused}
+use Rattle.wire_msgs.specs.declared.answer.Answer.TheVariants.{Parts, Ended as EndedBy, Done, Refused}
 use Rattle.wire_msgs.specs.declared.bundle.DownBundle.{DownBundle}
 use Rattle.wire_msgs.specs.declared.bundle.UpBundle.{UpBundle}
 use Rattle.wire_msgs.specs.declared.config.Config.{Config}
 use Rattle.wire_msgs.specs.declared.note.PartNote.TheVariants.{Commit}
-use Rattle.wire_msgs.specs.declared.part.DownPart.{DownPart}
-use Rattle.wire_msgs.specs.declared.refusal.Refusal.TheVariants.{Empty}
+use Rattle.wire_msgs.specs.declared.refusal.Refusal.TheVariants.{Stopped, Empty}
 use Rattle.journal.specs.declared.entry.Step.{Step}
-use Rattle.journal.specs.declared.entry.Step.TheVariants.{Act, Take, ParentAct, Hear}
+use Rattle.journal.specs.declared.entry.Step.TheVariants.{Act, Take, Raw as RawStep, ParentAct, Hear}
 use Rattle.protocol.specs.Questions.{Facts}
 use Rattle.protocol.specs.Sayings.{Saying}
+use Rattle.protocol.specs.Sayings.Saying.{Ended}
 use Rattle.protocol.specs.Seen.{Seen, Doing}
-use Rattle.protocol.specs.Bundle.{Ruling, bundle_ruling}
+use Rattle.protocol.specs.Bundle.{Ruling, bundle_ruling, bundle_for}
 use Rattle.protocol.specs.ParentActs.{action_ruling}
 use Rattle.protocol.specs.Take.{bundle_step, bundle_sent}
 use Rattle.protocol.specs.OwnActs.{action_step}
 use Rattle.protocol.specs.Outside.{told_allowed}
 use Rattle.traces.specs.Event.{Event, Bundle}
-use Rattle.traces.specs.Event.Event.{Writes, Sends, Takes, Accepts, Reverts, Ignores, Changes}
+use Rattle.traces.specs.Event.Event.{Writes, Sends, Takes, Accepts, Reverts, Ignores, Changes, Ends}
 use Rattle.traces.specs.Links.{writes_waiting, bundles_waiting}
 use Rattle.model.specs.Journal.{Journal}
 use Rattle.model.specs.Parent.{asked}
 use Rattle.model.specs.Process.{own_asked}
 
--- what a write or a change is, in the events of a process: its own bundle, or what the parent said in an
--- entry
+-- what a write or a change is, in the events of a process: a bundle of its own acts, one that is none of
+-- them, or what the parent said in an entry
 pub data Written : Type 0 where
   Own : (bundle : UpBundle) → Written
+  Raw : (bundle : UpBundle) → Written
   Said : (says : List Saying) → Written
 
--- an event of a process; a bundle from the parent is known by its parts
+-- an event of a process
 abbrev pub ProcessEvent : Type 0
-ProcessEvent = Event Written (List DownPart)
+ProcessEvent = Event Written DownBundle
 
 -- what an entry came to: what the parent said, what each process did, and the events of each process, each
 -- with the newest first, and its answer
@@ -95,16 +97,12 @@ act_moment c p action ms =
       answer = step.answer;
     }
 
--- the bundle that goes over the link
-abbrev pub down_bundle : Bundle (List DownPart) → DownBundle
-down_bundle b = record { epoch = record { 0 = b.epoch }; parts = b.content }
-
 -- a process takes the bundle that waited first
-abbrev pub taken_moment : Config → ℕ → List Moment → List (Bundle (List DownPart)) → Moment
+abbrev pub taken_moment : Config → ℕ → List Moment → List (Bundle DownBundle) → Moment
 taken_moment c p ms [] = only_answer (Refused Empty)
 taken_moment c p ms (b ∷ bs) =
     let now : List Doing → Seen = λ did. own_asked c.tabs p (did ++ did_by p ms) in
-    let step = bundle_step now (λ d did. d ∷ did) p (down_bundle b) [] in
+    let step = bundle_step now (λ d did. d ∷ did) p b.content [] in
     record {
       says = [];
       did = for_one p step.kept;
@@ -112,17 +110,43 @@ taken_moment c p ms (b ∷ bs) =
       answer = step.answer;
     }
 
--- the event of a process that is sent these parts in entry k, in which the parent said this
-abbrev pub told : ℕ → List Saying → List DownPart → ProcessEvent
-told k says [] = Changes k (Said says)
-told k says (d ∷ ds) = Sends k (Said says) (d ∷ ds)
+-- a process sends a bundle that is none of its own acts
+abbrev pub raw_moment : ℕ → UpBundle → Moment
+raw_moment p b = record {
+  says = [];
+  did = λ q. [];
+  events = for_one p (Writes (Raw b) ∷ []);
+  answer = Done;
+}
 
--- the parent acts in entry k
-abbrev pub parent_moment : ℕ → Ruling (List Saying) → Moment
-parent_moment k rule = record {
+-- a step of a process, unless it stopped
+abbrev pub if_running : Config → ℕ → List Moment → Moment → Moment
+if_running c p ms m = if (seen_now c p ms).running then m else only_answer (Refused Stopped)
+
+-- whether a process was ended by a saying
+abbrev pub is_end_of : ℕ → Saying → Bool
+is_end_of p (Ended q cause) = p == q
+is_end_of p y = false
+
+-- the event of a process that is ended by one of these, if it is
+abbrev pub ends : ℕ → List Saying → List ProcessEvent
+ends p says = if list_any (is_end_of p) says then Ends ∷ [] else []
+
+-- the event of a process that is sent this in entry k, in which the parent said this
+abbrev pub told : ℕ → List Saying → Option DownBundle → ProcessEvent
+told k says None = Changes k (Said says)
+told k says (Some d) = Sends k (Said says) d
+
+-- what process q is sent by a ruling behind these moments
+abbrev pub sent_to : Config → List Moment → Ruling (List Saying) → ℕ → Option DownBundle
+sent_to c ms rule q = bundle_for (asked c.tabs (rule.kept ++ said ms)) q (rule.sends q)
+
+-- the parent acts
+abbrev pub parent_moment : Config → List Moment → Ruling (List Saying) → Moment
+parent_moment c ms rule = record {
   says = rule.kept;
   did = λ q. [];
-  events = λ q. told k rule.kept (rule.sends q) ∷ [];
+  events = λ q. ends q rule.kept ++ told (length ms + 1) rule.kept (sent_to c ms rule q) ∷ [];
   answer = rule.answer;
 }
 
@@ -131,36 +155,47 @@ abbrev pub is_judged : Answer → Bool
 is_judged (Parts (Commit x notes ∷ more)) = true
 is_judged answer = false
 
--- the event of the process whose bundle the parent hears in entry k, by what it is sent back
-abbrev pub heard : ℕ → UpBundle → Answer → List DownPart → ProcessEvent
-heard k b answer [] = if is_judged answer then Accepts k (Own b) else Ignores k (Own b)
-heard k b answer (d ∷ ds) = Reverts k (Own b) (d ∷ ds)
+-- the events of the process whose bundle the parent hears in entry k, by what it is sent
+abbrev pub heard : ℕ → Written → Answer → List Saying → Option DownBundle → List ProcessEvent
+heard k w (EndedBy cause) says None = Ignores k w ∷ []
+heard k w (EndedBy cause) says (Some d) = Sends k (Said says) d ∷ Ignores k w ∷ []
+heard k w answer says None = (if is_judged answer then Accepts k w else Ignores k w) ∷ []
+heard k w answer says (Some d) = Reverts k w d ∷ []
 
--- the events of each process as the parent hears a bundle of process p in entry k
-abbrev pub events_heard : ℕ → ℕ → UpBundle → Ruling (List Saying) → ℕ → List ProcessEvent
-events_heard k p b rule q =
-    if q == p then heard k b rule.answer (rule.sends p) ∷ [] else told k rule.kept (rule.sends q) ∷ []
+-- the events of each process as the parent hears a bundle of process p
+abbrev pub events_heard : Config → ℕ → List Moment → Written → Ruling (List Saying) → ℕ
+    → List ProcessEvent
+events_heard c p ms w rule q =
+    ends q rule.kept ++ (if q == p then heard (length ms + 1) w rule.answer rule.kept (sent_to c ms rule p)
+    else told (length ms + 1) rule.kept (sent_to c ms rule q) ∷ [])
 
--- the parent hears the bundle of a process that waited first; the test says of which fields the functions of
--- the outside allow the value
-abbrev pub heard_moment : Config → ℕ → List Moment → (Field → Bool) → List Written → Moment
-heard_moment c p ms allows (Own b ∷ rest) =
+-- the parent hears a bundle of process p; the test says of which fields the functions of the outside allow
+-- the value
+abbrev pub bundle_moment : Config → ℕ → List Moment → (Field → Bool) → Written → UpBundle → Moment
+bundle_moment c p ms allows w b =
     let rule : Ruling (List Saying) =
     bundle_ruling (λ says. asked c.tabs (says ++ said ms)) (λ y says. y ∷ says)
     (length c.types) allows p b [] in
     record {
       says = rule.kept;
       did = λ q. [];
-      events = events_heard (length ms + 1) p b rule;
+      events = events_heard c p ms w rule;
       answer = rule.answer;
     }
+
+-- it hears the one that waited first
+abbrev pub heard_moment : Config → ℕ → List Moment → (Field → Bool) → List Written → Moment
+heard_moment c p ms allows (Own b ∷ rest) = bundle_moment c p ms allows (Own b) b
+heard_moment c p ms allows (Raw b ∷ rest) = bundle_moment c p ms allows (Raw b) b
 heard_moment c p ms allows others = only_answer (Refused Empty)
 
 -- what a step comes to
 abbrev pub moment : Config → List Moment → (Field → Bool) → Step → Moment
 moment c ms allows (Act p action) = act_moment c p.0 action ms
-moment c ms allows (Take p) = taken_moment c p.0 ms (bundles_waiting (events_of p.0 ms))
-moment c ms allows (ParentAct action) = parent_moment (length ms + 1)
+moment c ms allows (Take p) =
+    if_running c p.0 ms (taken_moment c p.0 ms (bundles_waiting (events_of p.0 ms)))
+moment c ms allows (RawStep p b) = if_running c p.0 ms (raw_moment p.0 b)
+moment c ms allows (ParentAct action) = parent_moment c ms
     (action_ruling (λ says. asked c.tabs (says ++ said ms)) (λ y says. y ∷ says) (length c.types) action [])
 moment c ms allows (Hear p) = heard_moment c p.0 ms allows (writes_waiting (events_of p.0 ms))
 

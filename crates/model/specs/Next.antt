@@ -10,11 +10,12 @@ use Rattle.protocol.specs.Outside.{allowed_of, told_allowed}
 use Rattle.traces.specs.Links.{writes_waiting}
 use Rattle.model.specs.Journal.{Journal}
 use Rattle.model.specs.Moments.{Moment, Written, events_of, moment, moments_of}
-use Rattle.model.specs.Moments.Written.{Own}
+use Rattle.model.specs.Moments.Written.{Own, Raw}
 
 -- of which fields of the bundle that waits first the bounds allow the value
 abbrev pub allowed_first : Bounds → List Written → Field → Bool
 allowed_first b (Own u ∷ more) = allowed_of b u
+allowed_first b (Raw u ∷ more) = allowed_of b u
 allowed_first b others = λ fld. false
 
 -- of which fields of the bundle that a step has the parent hear

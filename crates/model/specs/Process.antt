@@ -1,6 +1,6 @@
--- The answers of a process by looking back through what it did, the newest first. So far it writes and takes;
--- all else is as at the start.
-use Rattle.std.specs.Prelude.{ℕ, ◌+◌, List, [], ◌∷◌, Option, is_some, ◌&&◌, if◌then◌else◌}
+-- The answers of a process by looking back through what it did, the newest first. So far it writes, takes and
+-- stops; all else is as at the start.
+use Rattle.std.specs.Prelude.{ℕ, ◌+◌, Bool, true, false, List, [], ◌∷◌, Option, is_some, ◌&&◌, if◌then◌else◌}
 use Rattle.fission_ids.specs.declared.context.ContextId.{ContextId}
 use Rattle.fission_ids.specs.Ids.{same_context}
 use Rattle.field_table.specs.declared.field.Field.{Field}
@@ -9,8 +9,14 @@ use Rattle.transaction.specs.Transaction.{new_value}
 use Rattle.wire_msgs.specs.declared.config.StartTab.{StartTab}
 use Rattle.protocol.specs.Fold.{or_later}
 use Rattle.protocol.specs.Seen.{Seen, Doing}
-use Rattle.protocol.specs.Seen.Doing.{Wrote, Given, Took}
+use Rattle.protocol.specs.Seen.Doing.{Wrote, Given, Took, Stopped}
 use Rattle.protocol.specs.Start.{seen_at_start}
+
+-- whether the process runs
+unfoldable pub running : List Doing → Bool
+running [] = true
+running (Stopped ∷ older) = false
+running (_ ∷ older) = running older
 
 -- how many commits the process made
 unfoldable pub commits : List Doing → ℕ
@@ -43,6 +49,7 @@ newest x f (_ ∷ older) = newest x f older
 -- all answers
 abbrev pub own_asked : List StartTab → ℕ → List Doing → Seen
 own_asked tabs p did = record (seen_at_start tabs p) {
+  running = running did;
   commits = commits did;
   taken = taken did;
   value = λ x f. value tabs p x f did;

@@ -1,6 +1,6 @@
 -- What each side shows of a field: what a process sees of a journal is told as a trace of that field, and it
 -- shows the view of its trace.
-use Rattle.std.specs.Prelude.{ℕ, Bool, List, [], ◌∷◌, Option, None, Some, if◌then◌else◌}
+use Rattle.std.specs.Prelude.{ℕ, Bool, true, false, List, [], ◌∷◌, Option, None, Some, if◌then◌else◌}
 use Rattle.fission_ids.specs.declared.context.ContextId.{ContextId}
 use Rattle.fission_ids.specs.Ids.{same_context}
 use Rattle.field_table.specs.declared.field.Field.{Field}
@@ -8,6 +8,7 @@ use Rattle.field_table.specs.declared.value.Value.{Value}
 use Rattle.field_table.specs.Field.{initial}
 use Rattle.transaction.specs.Transaction.{Changes, new_value}
 use Rattle.wire_msgs.specs.declared.config.Config.{Config}
+use Rattle.wire_msgs.specs.declared.bundle.DownBundle.{DownBundle}
 use Rattle.wire_msgs.specs.declared.part.DownPart.{DownPart}
 use Rattle.wire_msgs.specs.declared.part.DownPart.TheVariants as downs
 use Rattle.wire_msgs.specs.declared.part.UpPart.{UpPart}
@@ -19,6 +20,7 @@ use Rattle.protocol.specs.Start.{is_held_at_start}
 use Rattle.traces.specs.Field.{Content, Look, Trace, trace_for}
 use Rattle.traces.specs.Field.Content.{Nothing, Gives}
 use Rattle.traces.specs.Event.{Bundle}
+use Rattle.traces.specs.Event.Event.{Writes}
 use Rattle.traces.specs.Laws.{Stands}
 use Rattle.traces.specs.Links.{bundles_waiting}
 use Rattle.traces.specs.Words.{Start, Stage, Fate, stage, while_held}
@@ -26,8 +28,8 @@ use Rattle.traces.specs.Words.Stage.{Held, Coming}
 use Rattle.traces.specs.Words.Fate.{Reverted}
 use Rattle.traces.specs.Words as words
 use Rattle.model.specs.Journal.{Journal}
-use Rattle.model.specs.Moments.{Moment, Written, events_of, facts_now, moments_of}
-use Rattle.model.specs.Moments.Written.{Own, Said}
+use Rattle.model.specs.Moments.{Moment, Written, ProcessEvent, events_of, facts_now, moments_of}
+use Rattle.model.specs.Moments.Written.{Own, Raw, Said}
 
 -- ---- a field of a context, in writes and in bundles
 
@@ -49,6 +51,7 @@ value_said x f (_ ∷ older) = value_said x f older
 
 abbrev pub value_written : ContextId → Field → Written → Option Value
 value_written x f (Own b) = value_in_parts x f b.parts
+value_written x f (Raw b) = value_in_parts x f b.parts
 value_written x f (Said says) = value_said x f says
 
 -- what there is where there is a value
@@ -62,10 +65,22 @@ content_of x f [] = Nothing
 content_of x f (downs.Commit y t ∷ parts) = given (value_for x f y t) (content_of x f parts)
 content_of x f (_ ∷ parts) = content_of x f parts
 
-abbrev pub look : ContextId → Field → Look Written (List DownPart) Value
-look x f = record { value_in = value_written x f; content_in = content_of x f }
+abbrev pub look : ContextId → Field → Look Written DownBundle Value
+look x f = record { value_in = value_written x f; content_in = λ d. content_of x f d.parts }
 
--- ---- a process's trace of it
+-- ---- honest processes
+
+-- whether each bundle that a process sent was of its own acts
+abbrev pub all_own : List ProcessEvent → Bool
+all_own [] = true
+all_own (Writes (Raw b) ∷ h) = false
+all_own (_ ∷ h) = all_own h
+
+-- whether process p is honest: it sent no raw bundle
+abbrev pub is_honest : Config → ℕ → Journal → Bool
+is_honest c p j = all_own (events_of p (moments_of c j))
+
+-- ---- a process's trace of the field
 
 -- how it begins: a process holds the contexts of its tabs
 abbrev pub begin : Config → ℕ → ContextId → Field → Start Value
@@ -108,7 +123,7 @@ abbrev pub IsOnItsWay : ℕ → Value → Config → ℕ → ContextId → Field
 IsOnItsWay k v c p x f j = Stands k (Gives v) (bundles_waiting (trace p x f (moments_of c j)))
 
 -- the entry that sent the first of these bundles
-abbrev pub first_sent : List (Bundle (List DownPart)) → Option ℕ
+abbrev pub first_sent : List (Bundle DownBundle) → Option ℕ
 first_sent [] = None
 first_sent (d ∷ ds) = Some d.entry
 

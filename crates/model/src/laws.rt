@@ -1,33 +1,46 @@
 ghost use Rattle.model.specs.Laws.{ProcessShowsTheView, PointNeverFalls, QuietShowsTheParent};
 ghost use Rattle.model.specs.Laws.{SettlingEnds, StepAddsLittle, RefusedChangesNothing};
 ghost use Rattle.model.specs.Laws.{RevertTakenShowsTheParent, RevertsWait};
+ghost use Rattle.model.specs.Laws.{HonestAreOnlyKilled, EndChangesNothingElse};
 
-/// What a process answers of a field is its view: its newest own write not yet answered, else the parent's
-/// value at the process's point; and it answers something exactly of what it holds.
+/// What an honest process answers of a field is its view: its newest own write not yet answered, else the
+/// parent's value at the process's point; and it answers something exactly of what it holds.
 pub fn process_shows_the_view()
     ensures { ProcessShowsTheView }
 {}
 
-/// A further entry lowers neither the base nor the point of a process.
+/// A further entry lowers neither the base nor the point of an honest process.
 pub fn point_never_falls()
     ensures { PointNeverFalls }
 {}
 
-/// A process with nothing on its links shows what the parent shows of each context that it holds.
+/// An honest process that wasn't ended, with nothing on its links, shows what the parent shows of each
+/// context that it holds.
 pub fn quiet_shows_the_parent()
     ensures { QuietShowsTheParent }
 {}
 
-/// As a process takes the bundle that reverts its newest write to a field, it shows the parent's value at the
-/// entry that sent it.
+/// As an honest process takes the bundle that reverts its newest write to a field, it shows the parent's
+/// value at the entry that sent it.
 pub fn revert_taken_shows_the_parent()
     ensures { RevertTakenShowsTheParent }
 {}
 
-/// A reverted write that isn't answered has its revert on its way, with the parent's value at the entry that
-/// sent it.
+/// A reverted write of an honest process that isn't answered has its revert on its way, with the parent's
+/// value at the entry that sent it.
 pub fn reverts_wait()
     ensures { RevertsWait }
+{}
+
+/// An honest process is ended by a kill alone: never for its epochs, stamps, parts or writes.
+pub fn honest_are_only_killed()
+    ensures { HonestAreOnlyKilled }
+{}
+
+/// A bundle that ends its sender does nothing else: the contexts and their fields, what each process answers,
+/// and what waits on the links of the others stay, but that the sender owns nothing any more.
+pub fn end_changes_nothing_else()
+    ensures { EndChangesNothingElse }
 {}
 
 /// Settling ends. It only adds entries; behind it nothing waits from any process, nor for one that runs; and

@@ -7,15 +7,11 @@ use Rattle.protocol.specs.Bundle.{Ruling, bundle_for}
 use Rattle.protocol.specs.Start.{numbers}
 use Rattle.parent_core.specs.Ruled.{addressed, bundles_of}
 use Rattle.world.specs.Sides.{delivered, links_with}
-use Rattle.world.proofs.Lists.{at_front, set_front, append_one, longer}
+use Rattle.world.proofs.Lists.{with_one, at_front, set_front, append_one, longer}
 
--- what waits with this bundle behind it, if there is one
-abbrev pub with_bundle : Option DownBundle → List DownBundle → List DownBundle
-with_bundle None bs = bs
-with_bundle (Some b) bs = bs ++ b ∷ []
-
+-- what waits behind a ruling
 abbrev pub behind : Ruling Facts → (ℕ → List DownBundle) → ℕ → List DownBundle
-behind r f q = with_bundle (bundle_for r.kept q (r.sends q)) (f q)
+behind r f q = with_one (bundle_for r.kept q (r.sends q)) (f q)
 
 -- one after the other
 over : (sent more : List (ProcId × DownBundle)) (downs : List (List DownBundle)) → delivered (sent ++ more) downs ≡ delivered more (delivered sent downs)
@@ -23,7 +19,7 @@ over [] more downs = refl
 over (to ∷ sent) more downs = over sent more (links_with to.0.0 to.1 downs)
 
 one : (o : Option DownBundle) (front : List (List DownBundle)) (bs : List DownBundle) (rest : List (List DownBundle)) (k : ℕ) → k ≡ length front
-    → delivered (addressed k o) (front ++ bs ∷ rest) ≡ front ++ with_bundle o bs ∷ rest
+    → delivered (addressed k o) (front ++ bs ∷ rest) ≡ front ++ with_one o bs ∷ rest
 one None front bs rest k e = refl
 one (Some b) front bs rest k e =
     ap (λ i. set (front ++ bs ∷ rest) i (get_or (front ++ bs ∷ rest) i [] ++ b ∷ [])) e

@@ -1,23 +1,26 @@
 -- The counts of a run are no greater than the number of its entries.
 use Rattle.std.proofs.Common.{◌≡◌, ℕ, suc, ◌+◌, ◌≤◌, ◌==◌, Bool, true, false, if◌then◌else◌, List, [], ◌∷◌, ◌++◌, length, Option, None, Some, subst, arith}
+use Rattle.std.specs.List.{list_any}
 use Rattle.std.proofs.lemmas.List.{length-append}
 use Rattle.field_table.specs.declared.field.Field.{Field}
 use Rattle.wire_msgs.specs.declared.answer.Answer.{Answer}
+use Rattle.wire_msgs.specs.declared.answer.Answer.TheVariants.{Ended as EndedBy, Refused}
+use Rattle.wire_msgs.specs.declared.bundle.DownBundle.{DownBundle}
 use Rattle.wire_msgs.specs.declared.bundle.UpBundle.{UpBundle}
 use Rattle.wire_msgs.specs.declared.config.Config.{Config}
-use Rattle.wire_msgs.specs.declared.part.DownPart.{DownPart}
+use Rattle.wire_msgs.specs.declared.refusal.Refusal.TheVariants.{Stopped}
 use Rattle.journal.specs.declared.entry.Step.{Step}
-use Rattle.journal.specs.declared.entry.Step.TheVariants.{Act, Take, ParentAct, Hear}
+use Rattle.journal.specs.declared.entry.Step.TheVariants.{Act, Take, Raw as RawStep, ParentAct, Hear}
+use Rattle.protocol.specs.Bundle.{Ruling}
 use Rattle.protocol.specs.Outside.{told_allowed}
 use Rattle.protocol.specs.Sayings.{Saying}
 use Rattle.model.specs.Journal.{Journal}
 use Rattle.traces.specs.Event.{Bundle}
-use Rattle.traces.specs.Event.Event.{Takes, Accepts, Ignores}
+use Rattle.traces.specs.Event.Event.{Writes, Takes, Accepts, Ignores, Ends}
 use Rattle.traces.specs.Links.{last_write, hears, takes, bundles_sent, writes_waiting, bundles_waiting}
-use Rattle.model.specs.Moments.{Moment, Written, ProcessEvent, events_of, for_one, written, told, moment, taken_moment, heard_moment, heard, events_heard, is_judged, moments_of}
-use Rattle.protocol.specs.Bundle.{Ruling}
-use Rattle.model.specs.Moments.Written.{Own, Said}
-use Rattle.world.proofs.Comes.{looked_at}
+use Rattle.model.specs.Moments.{Moment, Written, ProcessEvent, events_of, seen_now, for_one, only_answer, written, is_end_of, ends, told, sent_to, moment, if_running, taken_moment, raw_moment, heard_moment, heard, events_heard, is_judged, moments_of}
+use Rattle.model.specs.Moments.Written.{Own, Raw, Said}
+use Rattle.world.proofs.Comes.{action_looked, looked_at}
 
 -- no count of these events is greater than n
 pub record Few (n : ℕ) (h : List ProcessEvent) : Type 0 where
@@ -34,35 +37,53 @@ none_added : AddsFew []
 unfolding AddsFew
 none_added n h few = record { writes = omega (arith, few.writes); hear = omega (arith, few.hear); take = omega (arith, few.take); send = omega (arith, few.send) }
 
+-- a process writes
 written_added : (o : Option UpBundle) → AddsFew (written o)
 unfolding AddsFew
 written_added None n h few = none_added n h few
 written_added (Some b) n h few = record { writes = omega (arith, few.writes); hear = omega (arith, few.hear); take = omega (arith, few.take); send = omega (arith, few.send) }
 
-taken_added : (o : Option UpBundle) (d : Bundle (List DownPart)) → AddsFew (written o ++ Takes d ∷ [])
+taken_added : (o : Option UpBundle) (d : Bundle DownBundle) → AddsFew (written o ++ Takes d ∷ [])
 unfolding AddsFew
 taken_added None d n h few = record { writes = omega (arith, few.writes); hear = omega (arith, few.hear); take = omega (arith, few.take); send = omega (arith, few.send) }
 taken_added (Some b) d n h few = record { writes = omega (arith, few.writes); hear = omega (arith, few.hear); take = omega (arith, few.take); send = omega (arith, few.send) }
 
-told_added : (k : ℕ) (says : List Saying) (ds : List DownPart) → AddsFew (told k says ds ∷ [])
+wrote_added : (w : Written) → AddsFew (Writes w ∷ [])
 unfolding AddsFew
-told_added k says [] n h few = record { writes = omega (arith, few.writes); hear = omega (arith, few.hear); take = omega (arith, few.take); send = omega (arith, few.send) }
-told_added k says (d ∷ ds) n h few =
-    let sent : Bundle (List DownPart) = record { entry = k; epoch = hears h; content = d ∷ ds } in
-    let longer : length (bundles_sent h ++ sent ∷ []) ≡ length (bundles_sent h) + 1 = length-append (bundles_sent h) (sent ∷ []) in
-    record { writes = omega (arith, few.writes); hear = omega (arith, few.hear); take = omega (arith, few.take); send = omega (arith, few.send, longer) }
+wrote_added w n h few = record { writes = omega (arith, few.writes); hear = omega (arith, few.hear); take = omega (arith, few.take); send = omega (arith, few.send) }
 
-heard_added : (k : ℕ) (b : UpBundle) (a : Answer) (ds : List DownPart) → AddsFew (heard k b a ds ∷ [])
+-- the parent sends
+one_longer : (d : Bundle DownBundle) (h : List ProcessEvent) → length (bundles_sent h ++ d ∷ []) ≡ length (bundles_sent h) + 1
+one_longer d h = length-append (bundles_sent h) (d ∷ [])
+
+told_added : (k : ℕ) (says : List Saying) (o : Option DownBundle) → AddsFew (told k says o ∷ [])
 unfolding AddsFew
-heard_added k b a (d ∷ ds) = λ n h few.
-    let back : Bundle (List DownPart) = record { entry = k; epoch = hears h + 1; content = d ∷ ds } in
-    let longer : length (bundles_sent h ++ back ∷ []) ≡ length (bundles_sent h) + 1 = length-append (bundles_sent h) (back ∷ []) in
-    record { writes = omega (arith, few.writes); hear = omega (arith, few.hear); take = omega (arith, few.take); send = omega (arith, few.send, longer) }
-heard_added k b a [] = by (is_judged a)
+told_added k says None n h few = record { writes = omega (arith, few.writes); hear = omega (arith, few.hear); take = omega (arith, few.take); send = omega (arith, few.send) }
+told_added k says (Some d) n h few =
+    record { writes = omega (arith, few.writes); hear = omega (arith, few.hear); take = omega (arith, few.take); send = omega (arith, few.send, one_longer (record { entry = k; epoch = hears h; content = d }) h) }
+
+-- and hears
+heard_added : (k : ℕ) (w : Written) (a : Answer) (says : List Saying) (o : Option DownBundle) → AddsFew (heard k w a says o)
+unfolding AddsFew
+heard_added k w (EndedBy cause) says None = λ n h few. record { writes = omega (arith, few.writes); hear = omega (arith, few.hear); take = omega (arith, few.take); send = omega (arith, few.send) }
+heard_added k w (EndedBy cause) says (Some d) = λ n h few.
+    record { writes = omega (arith, few.writes); hear = omega (arith, few.hear); take = omega (arith, few.take); send = omega (arith, few.send, one_longer (record { entry = k; epoch = hears h + 1; content = d }) h) }
+heard_added k w a says None = by (is_judged a)
   where
-    by : (t : Bool) → AddsFew ((if t then Accepts k (Own b) else Ignores k (Own b)) ∷ [])
+    by : (t : Bool) → AddsFew ((if t then Accepts k w else Ignores k w) ∷ [])
     by true n h few = record { writes = omega (arith, few.writes); hear = omega (arith, few.hear); take = omega (arith, few.take); send = omega (arith, few.send) }
     by false n h few = record { writes = omega (arith, few.writes); hear = omega (arith, few.hear); take = omega (arith, few.take); send = omega (arith, few.send) }
+heard_added k w a says (Some d) = λ n h few.
+    record { writes = omega (arith, few.writes); hear = omega (arith, few.hear); take = omega (arith, few.take); send = omega (arith, few.send, one_longer (record { entry = k; epoch = hears h + 1; content = d }) h) }
+
+-- an end is no more
+ends_added : (q : ℕ) (says : List Saying) (new : List ProcessEvent) → AddsFew new → AddsFew (ends q says ++ new)
+unfolding AddsFew
+ends_added q says new adds n h few = by (list_any (is_end_of q) says) (adds n h few)
+  where
+    by : (b : Bool) → Few (n + 1) (new ++ h) → Few (n + 1) (((if b then Ends ∷ [] else []) ++ new) ++ h)
+    by true so = record { writes = so.writes; hear = so.hear; take = so.take; send = so.send }
+    by false so = so
 
 one_added : (p q : ℕ) (new : List ProcessEvent) → AddsFew new → AddsFew (for_one p new q)
 one_added p q new adds = by (q == p)
@@ -71,26 +92,37 @@ one_added p q new adds = by (q == p)
     by true = adds
     by false = none_added
 
-take_added : (c : Config) (p q : ℕ) (ms : List Moment) (ds : List (Bundle (List DownPart))) → AddsFew ((taken_moment c p ms ds).events q)
+running_added : (c : Config) (p q : ℕ) (ms : List Moment) (m : Moment) → AddsFew (m.events q) → AddsFew ((if_running c p ms m).events q)
+running_added c p q ms m adds = by (seen_now c p ms).running
+  where
+    by : (b : Bool) → AddsFew ((if b then m else only_answer (Refused Stopped)).events q)
+    by true = adds
+    by false = none_added
+
+take_added : (c : Config) (p q : ℕ) (ms : List Moment) (ds : List (Bundle DownBundle)) → AddsFew ((taken_moment c p ms ds).events q)
 take_added c p q ms [] = none_added
 take_added c p q ms (d ∷ ds) = one_added p q _ (taken_added _ d)
 
-events_added : (k p q : ℕ) (b : UpBundle) (rule : Ruling (List Saying)) → AddsFew (events_heard k p b rule q)
-events_added k p q b rule = by (q == p)
+events_added : (c : Config) (p q : ℕ) (ms : List Moment) (w : Written) (rule : Ruling (List Saying)) → AddsFew (events_heard c p ms w rule q)
+events_added c p q ms w rule = ends_added q rule.kept _ (by (q == p))
   where
-    by : (t : Bool) → AddsFew (if t then heard k b rule.answer (rule.sends p) ∷ [] else told k rule.kept (rule.sends q) ∷ [])
-    by true = heard_added k b rule.answer (rule.sends p)
-    by false = told_added k rule.kept (rule.sends q)
+    by : (t : Bool) → AddsFew (if t then heard (length ms + 1) w rule.answer rule.kept (sent_to c ms rule p) else told (length ms + 1) rule.kept (sent_to c ms rule q) ∷ [])
+    by true = heard_added (length ms + 1) w rule.answer rule.kept (sent_to c ms rule p)
+    by false = told_added (length ms + 1) rule.kept (sent_to c ms rule q)
 
 hear_added : (c : Config) (p q : ℕ) (ms : List Moment) (allows : Field → Bool) (ws : List Written) → AddsFew ((heard_moment c p ms allows ws).events q)
 hear_added c p q ms allows [] = none_added
 hear_added c p q ms allows (Said says ∷ ws) = none_added
-hear_added c p q ms allows (Own b ∷ ws) = events_added (length ms + 1) p q b (looked_at c ms allows p b)
+hear_added c p q ms allows (Own b ∷ ws) = events_added c p q ms (Own b) (looked_at c ms allows p b)
+hear_added c p q ms allows (Raw b ∷ ws) = events_added c p q ms (Raw b) (looked_at c ms allows p b)
 
 moment_added : (c : Config) (ms : List Moment) (allows : Field → Bool) (s : Step) (q : ℕ) → AddsFew ((moment c ms allows s).events q)
 moment_added c ms allows (Act p action) q = one_added p.0 q _ (written_added _)
-moment_added c ms allows (Take p) q = take_added c p.0 q ms (bundles_waiting (events_of p.0 ms))
-moment_added c ms allows (ParentAct action) q = told_added (length ms + 1) _ _
+moment_added c ms allows (Take p) q = running_added c p.0 q ms (taken_moment c p.0 ms (bundles_waiting (events_of p.0 ms))) (take_added c p.0 q ms (bundles_waiting (events_of p.0 ms)))
+moment_added c ms allows (RawStep p b) q = running_added c p.0 q ms (raw_moment p.0 b) (one_added p.0 q _ (wrote_added (Raw b)))
+moment_added c ms allows (ParentAct action) q =
+    let rule : Ruling (List Saying) = action_looked c ms action in
+    ends_added q rule.kept (told (length ms + 1) rule.kept (sent_to c ms rule q) ∷ []) (told_added (length ms + 1) rule.kept (sent_to c ms rule q))
 moment_added c ms allows (Hear p) q = hear_added c p.0 q ms allows (writes_waiting (events_of p.0 ms))
 
 pub few_counts : (c : Config) (j : Journal) (q : ℕ) → Few (length j) (events_of q (moments_of c j))

@@ -4,8 +4,8 @@ pub mod Delivered
 pub mod LooksBack
 pub mod Comes
 pub mod Few
-pub mod Steps
 pub mod Readiness
+pub mod Steps
 pub mod AllCounts
 pub mod Shown
 pub mod PutBack

@@ -1,8 +1,13 @@
 -- Lists: maps that agree, maps in place, lists of numbers, and what a cut leaves.
-use Rattle.std.proofs.Common.{◌≡◌, ◌≢◌, ℕ, zero, suc, ◌+◌, ◌<◌, ◌≤◌, List, [], ◌∷◌, ◌++◌, length, map, take, drop, get_or, set, refl, sym, ap, ap₂, ◌∙◌, get_or-drop, arith}
+use Rattle.std.proofs.Common.{◌≡◌, ◌≢◌, ℕ, zero, suc, ◌+◌, ◌<◌, ◌≤◌, List, [], ◌∷◌, ◌++◌, length, map, take, drop, get_or, set, Option, None, Some, refl, sym, ap, ap₂, ◌∙◌, get_or-drop, arith}
 use Rattle.std.proofs.lemmas.List.{get_or-map, take_more, take_more_set, map-append}
 use Rattle.std.proofs.Math.Seq.{take-append_seam}
 use Rattle.protocol.specs.Start.{numbers}
+
+-- a list with one item behind it, if there is one
+abbrev pub with_one : {A : Type 0} → Option A → List A → List A
+with_one None xs = xs
+with_one (Some x) xs = xs ++ x ∷ []
 
 pub map-same : {A B : Type 0} (f g : A → B) → ((x : A) → f x ≡ g x) → (xs : List A) → map f xs ≡ map g xs
 map-same f g same [] = refl

@@ -1,37 +1,34 @@
 -- A world that stands for its journal is ready for a step.
-use Rattle.std.proofs.Common.{◌≡◌, ℕ, ◌+◌, ◌<◌, false, List, [], ◌∷◌, length, map, get_or, Option, None, Some, IsSome, refl, sym, ap, subst, ◌∙◌, arith}
+use Rattle.std.proofs.Common.{◌≡◌, ◌⊎◌, inl, inr, ℕ, ◌<◌, ◌≤◌, Bool, List, [], ◌∷◌, length, map, get_or, Option, None, Some, refl, sym, ap, subst, ◌∙◌, arith}
+use Rattle.std.specs.List.{AllByRecursion}
 use Rattle.std.specs.Option.{option_map}
 use Rattle.std.proofs.lemmas.List.{length-map, get_or-map}
 use Rattle.wire_msgs.specs.declared.bundle.DownBundle.{DownBundle}
 use Rattle.wire_msgs.specs.declared.bundle.UpBundle.{UpBundle}
 use Rattle.wire_msgs.specs.declared.config.Config.{Config}
-use Rattle.wire_msgs.specs.declared.part.DownPart.{DownPart}
-use Rattle.protocol.specs.Hear.{denied_of}
+use Rattle.wire_msgs.specs.declared.config.StartTab.{StartTab}
 use Rattle.protocol.specs.Questions.{Facts}
 use Rattle.protocol.specs.Start.{numbers}
 use Rattle.content_core.specs.Content.{Kept as ContentKept}
-use Rattle.content_core.specs.Moved.{IsCommit}
+use Rattle.content_core.specs.Moved.{IsTaken}
 use Rattle.parent_core.specs.Parent.{Kept as ParentKept, facts_of}
 use Rattle.traces.specs.Event.{Bundle}
-use Rattle.traces.specs.Links.{bundles_waiting}
+use Rattle.traces.specs.Links.{last_write, hears, takes, bundles_sent, is_ended, bundles_waiting}
 use Rattle.model.specs.Journal.{Journal}
 use Rattle.model.specs.Links.{up_waiting, down_waiting}
-use Rattle.model.specs.Moments.{Moment, said, events_of, facts_now, down_bundle, moments_of}
+use Rattle.model.specs.Moments.{Moment, events_of, facts_now, moments_of}
 use Rattle.model.specs.Next.{Run}
-use Rattle.model.proofs.Ties.{AreCommits}
-use Rattle.model.proofs.TiesStart.{same_denied}
-use Rattle.model.proofs.Honest.{AreOwnCommits, CountsTie, counts_tie, ups_wait, commits_wait}
+use Rattle.model.proofs.Ties.{IsCommit, IsLast, AreTold}
+use Rattle.model.proofs.Waiting.{HaveCommits, CountsTie, counts_tie, ups_wait, downs_wait}
 use Rattle.world.specs.Came.{State}
 use Rattle.world.specs.Sides.{Side, side_of, sides_of, waiting_at}
 use Rattle.world.specs.Stands.{side, state_of, Stands, most_entries}
 use Rattle.world.specs.Ready.{IsReady}
 use Rattle.world.proofs.Lists.{length-numbers, get_or-map-numbers}
+use Rattle.world.proofs.Waits.{contents as contents_of}
 use Rattle.world.proofs.Comes.{at_links}
 use Rattle.world.proofs.Few.{Few, few_counts}
-
-there_is : (o : Option ContentKept) (s : Side) → option_map side_of o ≡ Some s → IsSome o
-there_is None s e = cc
-there_is (Some k) s e = refl
+use Rattle.world.proofs.Shown.{there_is}
 
 same_side : (k : ContentKept) (s : Side) (o : Option ContentKept) → o ≡ Some k → option_map side_of o ≡ Some s → side_of k ≡ s
 same_side k s o is e = cc
@@ -39,11 +36,21 @@ same_side k s o is e = cc
 length-by_numbers : {A : Type 0} (f : ℕ → A) (n : ℕ) → length (map f (numbers 0 n)) ≡ n
 length-by_numbers f n = length-map (numbers 0 n) f ∙ length-numbers 0 n
 
-first_commit : (c : Config) (p : ℕ) (ds : List (Bundle (List DownPart))) → AreCommits c.tabs p ds → (b : DownBundle) (bs : List DownBundle) → map down_bundle ds ≡ b ∷ bs → IsCommit b.parts
-first_commit c p [] all b bs e = cc
-first_commit c p (d ∷ ds) all b bs e =
-    let same : down_bundle d ≡ b = cc in
-    record { context = all.0.context; changes = all.0.changes; is = sym (ap (λ (x : DownBundle). x.parts) same) ∙ all.0.is }
+-- what waits first is a commit, or tells the process to stop
+pub first_taken : (tabs : List StartTab) (p : ℕ) (over : Bool) (ds : List (Bundle DownBundle)) → AreTold tabs p over ds
+    → (d : Bundle DownBundle) (rest : List (Bundle DownBundle)) → ds ≡ d ∷ rest → IsTaken d.content.parts
+first_taken tabs p over ds all d rest e = by (subst (AreTold tabs p over) e all)
+  where
+    by : (IsCommit tabs p d.content.parts × AreTold tabs p over rest) ⊎ IsLast over d rest → IsTaken d.content.parts
+    by (inl cs) = subst IsTaken (sym cs.0.is) tt
+    by (inr last) = subst IsTaken (sym last.is) tt
+
+first_bundle : (tabs : List StartTab) (p : ℕ) (over : Bool) (ds : List (Bundle DownBundle)) → AreTold tabs p over ds
+    → (b : DownBundle) (bs : List DownBundle) → contents_of ds ≡ b ∷ bs → IsTaken b.parts
+first_bundle tabs p over [] all b bs e = cc
+first_bundle tabs p over (d ∷ ds) all b bs e =
+    let same : d.content ≡ b = cc in
+    subst (λ (x : DownBundle). IsTaken x.parts) same (first_taken tabs p over (d ∷ ds) all d ds refl)
 
 module _ (before : ParentKept) (contents : List (Option ContentKept)) (ups : List (List UpBundle)) (downs : List (List DownBundle)) (j : Journal)
     (stands : Stands before.config j (state_of before contents ups downs)) (room : length j < most_entries) where
@@ -89,22 +96,25 @@ module _ (before : ParentKept) (contents : List (Option ContentKept)) (ups : Lis
     counts = λ p k lt is.
         let same : side_of k ≡ side before.config (moments_of before.config j) p = same_side k (side before.config (moments_of before.config j) p) (get_or contents p None) is (side_is p lt) in
         let tie : CountsTie run p = counts_tie run p stands.fits lt in
-        let commits : k.commits ≡ _ = ap (λ (s : Side). s.seen.commits) same ∙ tie.commits in
-        let taken : k.taken ≡ _ = ap (λ (s : Side). s.seen.taken) same ∙ tie.taken in
+        let commits : k.commits ≤ last_write (events_of p (moments_of before.config j)) =
+        subst (λ n. n ≤ last_write (events_of p (moments_of before.config j))) (sym (ap (λ (s : Side). s.seen.commits) same)) tie.commits in
+        let taken : k.taken ≡ takes (events_of p (moments_of before.config j)) = ap (λ (s : Side). s.seen.taken) same ∙ tie.taken in
         record { commits = omega (arith, commits, (few p).writes, room); taken = omega (arith, taken, (few p).take, room) };
     parent_counts = record {
-      heard = λ p lt. let e : (facts_of before).processes.commits_heard p ≡ _ = ap (λ (f : Facts). f.processes.commits_heard p) facts_are ∙ (counts_tie run p stands.fits lt).heard in omega (arith, e, (few p).hear, room);
-      sent = λ p lt. let e : (facts_of before).processes.bundles_sent p ≡ _ = ap (λ (f : Facts). f.processes.bundles_sent p) facts_are ∙ (counts_tie run p stands.fits lt).sent in omega (arith, e, (few p).send, room);
+      heard = λ p lt.
+          let e : (facts_of before).processes.commits_heard p ≤ hears (events_of p (moments_of before.config j)) =
+          subst (λ n. n ≤ hears (events_of p (moments_of before.config j))) (sym (ap (λ (f : Facts). f.processes.commits_heard p) facts_are)) (counts_tie run p stands.fits lt).heard in
+          omega (arith, e, (few p).hear, room);
+      sent = λ p lt.
+          let e : (facts_of before).processes.bundles_sent p ≡ length (bundles_sent (events_of p (moments_of before.config j))) =
+          ap (λ (f : Facts). f.processes.bundles_sent p) facts_are ∙ (counts_tie run p stands.fits lt).sent in
+          omega (arith, e, (few p).send, room);
     };
-    honest = λ p b bs lt waits.
-        let up : up_waiting p (moments_of before.config j) ≡ b ∷ bs = sym (ap (waiting_at p) ups_are ∙ at_links (λ q. up_waiting q (moments_of before.config j)) (length before.config.types) p lt) ∙ waits in
-        let all : AreOwnCommits before.config.tabs (facts_of before) p ((facts_of before).processes.commits_heard p + 1) (b ∷ bs) =
-        subst (λ bs2. AreOwnCommits before.config.tabs (facts_of before) p ((facts_of before).processes.commits_heard p + 1) bs2) up
-        (subst (λ f. AreOwnCommits before.config.tabs f p (f.processes.commits_heard p + 1) (up_waiting p (moments_of before.config j))) (sym facts_are) (ups_wait run p stands.fits lt)) in
-        let allowed : denied_of (λ fld. false) (facts_now before.config (moments_of before.config j)) p all.0.context all.0.changes ≡ [] =
-        same_denied (λ fld. false) before.config.tabs (said (moments_of before.config j)) p all.0.context all.0.changes ∙ all.0.allowed in
-        record { context = all.0.context; changes = all.0.changes; parts = all.0.parts; allowed = subst (λ (f : Facts). denied_of (λ fld. false) f p all.0.context all.0.changes ≡ []) (sym facts_are) allowed; epoch = all.0.epoch; seen = all.0.seen };
     commits = λ p b bs lt waits.
-        first_commit before.config p (bundles_waiting (events_of p (moments_of before.config j))) (commits_wait run p stands.fits lt) b bs
+        let up : up_waiting p (moments_of before.config j) ≡ b ∷ bs = sym (ap (waiting_at p) ups_are ∙ at_links (λ q. up_waiting q (moments_of before.config j)) (length before.config.types) p lt) ∙ waits in
+        let all : AllByRecursion HaveCommits (b ∷ bs) = subst (AllByRecursion HaveCommits) up (ups_wait run p stands.fits lt) in
+        all.0;
+    taken = λ p b bs lt waits.
+        first_bundle before.config.tabs p (is_ended (events_of p (moments_of before.config j))) (bundles_waiting (events_of p (moments_of before.config j))) (downs_wait run p stands.fits lt) b bs
         (sym (ap (waiting_at p) downs_are ∙ at_links (λ q. down_waiting q (moments_of before.config j)) (length before.config.types) p lt) ∙ waits);
   }

@@ -1,5 +1,5 @@
 -- What a world that stands for its journal has for one process, and what its sides show.
-use Rattle.std.proofs.Common.{◌≡◌, ℕ, ◌==◌, ◌<◌, true, List, [], ◌∷◌, length, map, get_or, Option, None, Some, IfSome, is_some, Bor, refl, sym, ap, subst, ◌∙◌, arith}
+use Rattle.std.proofs.Common.{◌≡◌, ℕ, ◌==◌, ◌<◌, true, List, [], ◌∷◌, length, map, get_or, Option, None, Some, IsSome, IfSome, unwrap_or, is_some, Bor, refl, sym, ap, subst, ◌∙◌, arith}
 use Rattle.std.specs.Option.{option_map, option_copied}
 use Rattle.std.proofs.lemmas.Bool.Decides.{nat_tests}
 use Rattle.std.proofs.lemmas.List.{length-map, get_or-map}
@@ -14,10 +14,10 @@ use Rattle.parent_core.specs.Parent.{Kept as ParentKept, facts_of}
 use Rattle.model.specs.Journal.{Journal}
 use Rattle.model.specs.Links.{up_waiting, down_waiting, is_nothing}
 use Rattle.model.specs.Moments.{facts_now, seen_now, moments_of}
-use Rattle.model.specs.View.{view, parent_view}
+use Rattle.model.specs.View.{view, parent_view, is_honest}
 use Rattle.model.proofs.ShownLaws.{process_shows}
 use Rattle.world.specs.Came.{State}
-use Rattle.world.specs.Sides.{Side, side_of, sides_of}
+use Rattle.world.specs.Sides.{Side, no_side, side_of, sides_of, runs_at}
 use Rattle.world.specs.Stands.{side, state_of, Stands}
 use Rattle.world.proofs.Lists.{length-numbers, get_or-map-numbers}
 use Rattle.world.proofs.PutBack.{any_default}
@@ -56,10 +56,18 @@ module _ (c : Config) (j : Journal) (parent : ParentKept) (contents : List (Opti
   pub side_at : (p : ℕ) → p < length c.types → get_or (sides_of contents) p None ≡ Some (side c (moments_of c j) p)
   side_at p lt = ap (λ (s : State). get_or s.sides p None) stands.is ∙ get_or-map-numbers (λ q. Some (side c (moments_of c j) q)) (length c.types) p None lt
 
+  -- whether it runs
+  pub runs_is : (p : ℕ) → p < length c.types → runs_at p (sides_of contents) ≡ (seen_now c p (moments_of c j)).running
+  runs_is p lt = ap (λ (o : Option Side). (unwrap_or o no_side).seen.running) (side_at p lt)
+
 -- a list with no item
 pub nothing_is : {X : Type 0} (xs : List X) → (length xs == 0) ≡ is_nothing xs
 nothing_is [] = refl
 nothing_is (x ∷ xs) = grind (arith, nat_tests)
+
+pub there_is : (o : Option ContentKept) (s : Side) → option_map side_of o ≡ Some s → IsSome o
+there_is None s e = cc
+there_is (Some k) s e = refl
 
 module _ (c : Config) (j : Journal) (parent : ParentKept) (contents : List (Option ContentKept)) (ups : List (List UpBundle)) (downs : List (List DownBundle))
     (stands : Stands c j (state_of parent contents ups downs)) where
@@ -71,16 +79,19 @@ module _ (c : Config) (j : Journal) (parent : ParentKept) (contents : List (Opti
       ∙ sym (get_or-map (option_map side_of) contents p None None within)
       ∙ side_at c j parent contents ups downs stands p lt
 
+  pub there_at : (p : ℕ) → p < length c.types → IsSome (get_or contents p None)
+  there_at p lt = there_is (get_or contents p None) (side c (moments_of c j) p) (held_at p (get_or contents p None) None lt refl)
+
   some_side : (k : ContentKept) (o : Option ContentKept) (p : ℕ) → option_map side_of o ≡ Some (side c (moments_of c j) p) → Some k ≡ o → side_of k ≡ side c (moments_of c j) p
   some_side k o p e1 e2 = cc
 
-  -- what stands there shows the view of the process
+  -- what stands there shows the view of the process, if it is honest
   pub shows_at : (p : ℕ) (o : Option ContentKept) (r : Option (Bor ContentKept)) → p < length c.types → option_map side_of o ≡ Some (side c (moments_of c j) p) → option_copied r ≡ o
-      → IfSome r (λ k. (x : ContextId) (f : Field) → (seen_of k.now).value x f ≡ view c p x f j)
+      → IfSome r (λ k. is_honest c p j ≡ true → (x : ContextId) (f : Field) → (seen_of k.now).value x f ≡ view c p x f j)
   shows_at p o None lt held is = tt
-  shows_at p o (Some k) lt held is = λ x f.
+  shows_at p o (Some k) lt held is = λ honest x f.
       let same : side_of k.now ≡ side c (moments_of c j) p = some_side k.now o p held is in
-      ap (λ (s : Side). s.seen.value x f) same ∙ process_shows (record { config = c; journal = j }) p x f stands.fits lt
+      ap (λ (s : Side). s.seen.value x f) same ∙ process_shows (record { config = c; journal = j }) p x f stands.fits lt honest
 
   -- it is that process
   pub number_at : (p : ℕ) (o : Option ContentKept) (r : Option (Bor ContentKept)) → option_map side_of o ≡ Some (side c (moments_of c j) p) → option_copied r ≡ o → IfSome r (λ k. k.now.process ≡ p)

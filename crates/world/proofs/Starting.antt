@@ -38,7 +38,7 @@ state_at_start : (c : Config) → state c [] ≡ record {
   ups = map (λ p. []) (numbers 0 (length c.types));
   downs = map (λ p. []) (numbers 0 (length c.types));
 }
-unfolding parent.value parent.commits_heard parent.bundles_sent process.commits process.taken process.value process.newest
+unfolding parent.value parent.commits_heard parent.bundles_sent parent.ended parent.owner parent.subscribers process.running process.commits process.taken process.value process.newest
 state_at_start c = refl
 
 -- a world stands for no journal

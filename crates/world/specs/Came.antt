@@ -1,15 +1,15 @@
 -- What a step comes to, and what there is behind it.
-use Rattle.std.specs.Prelude.{ℕ, ◌∷◌, List, [], Option, slice_set}
+use Rattle.std.specs.Prelude.{ℕ, if◌then◌else◌, ◌∷◌, List, [], Option, Some, slice_set}
 use Rattle.field_rules.specs.Bounds.{Bounds}
 use Rattle.wire_msgs.specs.declared.action.Action.{Action}
 use Rattle.wire_msgs.specs.declared.action.ParentAction.{ParentAction}
 use Rattle.wire_msgs.specs.declared.answer.Answer.{Answer}
-use Rattle.wire_msgs.specs.declared.answer.Answer.TheVariants.{Refused}
+use Rattle.wire_msgs.specs.declared.answer.Answer.TheVariants.{Done, Refused}
 use Rattle.wire_msgs.specs.declared.bundle.DownBundle.{DownBundle}
 use Rattle.wire_msgs.specs.declared.bundle.UpBundle.{UpBundle}
-use Rattle.wire_msgs.specs.declared.refusal.Refusal.TheVariants.{Empty}
+use Rattle.wire_msgs.specs.declared.refusal.Refusal.TheVariants.{Stopped, Empty}
 use Rattle.journal.specs.declared.entry.Step.{Step}
-use Rattle.journal.specs.declared.entry.Step.TheVariants.{Act, Take, ParentAct, Hear}
+use Rattle.journal.specs.declared.entry.Step.TheVariants.{Act, Take, Raw, ParentAct, Hear}
 use Rattle.protocol.specs.Questions.{Facts}
 use Rattle.protocol.specs.FactsAfter.{facts_after}
 use Rattle.protocol.specs.Bundle.{Ruling, bundle_ruling}
@@ -17,8 +17,8 @@ use Rattle.protocol.specs.Outside.{allowed_of}
 use Rattle.protocol.specs.ParentActs.{action_ruling}
 use Rattle.protocol.specs.Start.{numbers}
 use Rattle.parent_core.specs.Ruled.{bundles_of}
-use Rattle.world.specs.Sides.{Side, step_of_action, step_of_bundle, sides_after, sent_by, ups_after}
-use Rattle.world.specs.Sides.{waiting_at, delivered}
+use Rattle.world.specs.Sides.{Side, runs_at, step_of_action, step_of_bundle, sides_after, sent_by}
+use Rattle.world.specs.Sides.{ups_after, waiting_at, delivered}
 
 -- the parent's answers, the processes, and the links from and to them
 pub record State : Type 0 where
@@ -55,6 +55,14 @@ taken p (b ∷ bs) s =
       };
     }
 
+-- process p sends a bundle that is none of its own acts
+abbrev pub raw_sent : ℕ → UpBundle → State → Came
+raw_sent p b s = record { answer = Done; state = record s { ups = ups_after p (Some b) s.ups } }
+
+-- a step of process p, unless it stopped
+abbrev pub if_running : ℕ → State → Came → Came
+if_running p s k = if runs_at p s.sides then k else record { answer = Refused Stopped; state = s }
+
 -- the parent rules, where there are n processes
 abbrev pub ruled : ℕ → Ruling Facts → State → Came
 ruled n rule s = record {
@@ -76,6 +84,7 @@ heard bounds n p (b ∷ bs) s =
 -- what a step comes to, where there are n processes
 abbrev pub came : Bounds → ℕ → Step → State → Came
 came bounds n (Act p action) s = acted p.0 action s
-came bounds n (Take p) s = taken p.0 (waiting_at p.0 s.downs) s
+came bounds n (Take p) s = if_running p.0 s (taken p.0 (waiting_at p.0 s.downs) s)
+came bounds n (Raw p b) s = if_running p.0 s (raw_sent p.0 b s)
 came bounds n (ParentAct action) s = parent_acted n action s
 came bounds n (Hear p) s = heard bounds n p.0 (waiting_at p.0 s.ups) s

@@ -3,11 +3,11 @@ use Rattle.std.specs.Prelude.{◌≡◌, ℕ, ◌-◌, ◌^◌, ◌<◌, List, �
 use Rattle.std.specs.Prelude.{slice_index_or}
 use Rattle.wire_msgs.specs.declared.bundle.DownBundle.{DownBundle}
 use Rattle.wire_msgs.specs.declared.bundle.UpBundle.{UpBundle}
+use Rattle.protocol.specs.Commits.{AreCommits}
 use Rattle.content_core.specs.Content.{Kept as ContentKept}
-use Rattle.content_core.specs.Moved.{IsCommit}
+use Rattle.content_core.specs.Moved.{IsTaken}
 use Rattle.content_core.specs.Moved as content
-use Rattle.parent_core.specs.Parent.{Kept as ParentKept, counted_of, facts_of}
-use Rattle.parent_core.specs.Ruled.{IsHonest}
+use Rattle.parent_core.specs.Parent.{Kept as ParentKept, counted_of}
 use Rattle.world.specs.Sides.{waiting_at}
 use Rattle.world.specs.declared.sides.Sides.{Sides}
 
@@ -25,10 +25,10 @@ pub record IsReady (n : ℕ) (before : ParentKept) (contents : List (Option Cont
   pub there : (p : ℕ) → p < n → IsSome (slice_index_or contents p None)
   pub counts : (p : ℕ) (k : ContentKept) → p < n → slice_index_or contents p None ≡ Some k → content.Counts k
   pub parent_counts : CountsWithin n before
-  pub honest : (p : ℕ) (b : UpBundle) (bs : List UpBundle) → p < n → waiting_at p ups ≡ b ∷ bs
-      → IsHonest (facts_of before) p b
-  pub commits : (p : ℕ) (b : DownBundle) (bs : List DownBundle) → p < n → waiting_at p downs ≡ b ∷ bs
-      → IsCommit b.parts
+  pub commits : (p : ℕ) (b : UpBundle) (bs : List UpBundle) → p < n → waiting_at p ups ≡ b ∷ bs
+      → AreCommits b.parts
+  pub taken : (p : ℕ) (b : DownBundle) (bs : List DownBundle) → p < n → waiting_at p downs ≡ b ∷ bs
+      → IsTaken b.parts
 
 -- the same of the parent and its sides
 abbrev pub AreReady : ParentKept → Sides → Type 0

@@ -1,5 +1,5 @@
 -- What the processes and their links are, as a step sees them: each process by the answers that it gives.
-use Rattle.std.specs.Prelude.{ℕ, List, [], ◌∷◌, ◌++◌, map, slice_set, slice_index_or}
+use Rattle.std.specs.Prelude.{ℕ, Bool, List, [], ◌∷◌, ◌++◌, map, slice_set, slice_index_or}
 use Rattle.std.specs.Prelude.{Option, None, Some, unwrap_or}
 use Rattle.std.specs.Option.{option_map}
 use Rattle.fission_ids.specs.declared.process.ProcId.{ProcId}
@@ -33,6 +33,10 @@ no_side = record { process = 0; tabs = []; seen = seen_at_start [] 0 }
 
 abbrev pub side_at : ℕ → List (Option Side) → Side
 side_at p sides = unwrap_or (slice_index_or sides p None) no_side
+
+-- whether process p runs
+abbrev pub runs_at : ℕ → List (Option Side) → Bool
+runs_at p sides = (side_at p sides).seen.running
 
 -- what an action of process p is
 abbrev pub step_of_action : ℕ → Action → List (Option Side) → Step Seen

@@ -1,9 +1,9 @@
-ghost use Rattle.std.specs.Prelude.{◌≡◌, ℕ, ◌<◌, ◌≤◌, ◌+◌, length, IfOk};
+ghost use Rattle.std.specs.Prelude.{◌≡◌, ℕ, ◌<◌, ◌≤◌, ◌+◌, length, true, IfOk};
 ghost use Rattle.fission_ids.specs.declared.context.ContextId.{ContextId};
 ghost use Rattle.field_table.specs.declared.field.Field.{Field};
 ghost use Rattle.field_rules.specs.RuleBounds.{bounds_of};
 ghost use Rattle.model.specs.Settling.{heard_by, taken_by, round, settled, weight, IsServed, Extends};
-ghost use Rattle.model.specs.View.{base, point};
+ghost use Rattle.model.specs.View.{base, point, is_honest};
 ghost use Rattle.world.specs.Stands.{most_entries};
 
 use crate::world::World;
@@ -13,16 +13,18 @@ use journal::Step;
 
 impl World {
     /// Delivers all that waits, as the rules judge it, process by process and round by round, until a round
-    /// does nothing. No base and no point of a process falls by it. An error says that memory is wanting, and
-    /// then nothing of the world is left.
+    /// does nothing. No base and no point of an honest process falls by it. An error says that memory is
+    /// wanting, and then nothing of the world is left.
     pub fn settle(self, rules: &Rules) -> Result<World, OutOfMemory>
         requires { length self.journal + weight self < most_entries }
         ensures settled { IfOk result (λ w. w ≡ settled (bounds_of rules.now) self) }
         ensures served { IfOk result (λ w. (p : ℕ) → p < length self.config.types → IsServed p w) }
         ensures extends { IfOk result (λ w. Extends self.journal w.journal) }
         ensures base { IfOk result (λ w. (p : ℕ) (x : ContextId) (f : Field) → p < length self.config.types →
+            is_honest w.config p w.journal ≡ true →
             base self.config p x f self.journal ≤ base w.config p x f w.journal) }
         ensures point { IfOk result (λ w. (p : ℕ) (x : ContextId) (f : Field) → p < length self.config.types →
+            is_honest w.config p w.journal ≡ true →
             point self.config p x f self.journal ≤ point w.config p x f w.journal) }
     {
         self.fits();

@@ -1,8 +1,8 @@
 ghost use Rattle.std.specs.Prelude.{◌≡◌, ◌<◌, length, IfOk, IsSome, OnOk, Some, None, slice_index_or};
 ghost use Rattle.content_core.specs.Content.{IsPlayed, Kept};
-ghost use Rattle.content_core.specs.Moved.{Counts, IsCommit};
-ghost use Rattle.world.specs.Sides.{sides_of, step_of_action, step_of_bundle, sides_after, sent_by};
-ghost use Rattle.world.specs.Sides.{ups_after};
+ghost use Rattle.content_core.specs.Moved.{Counts, IsTaken};
+ghost use Rattle.world.specs.Sides.{sides_of, runs_at, step_of_action, step_of_bundle, sides_after};
+ghost use Rattle.world.specs.Sides.{sent_by, ups_after};
 
 use channels::Link;
 use content_core::{Content, Moved};
@@ -23,6 +23,15 @@ pub(crate) struct Sides {
 pub(crate) struct Told {
     pub(crate) answer: Answer,
     pub(crate) sent: Option<UpBundle>,
+}
+
+/// Whether process p runs.
+pub(crate) fn runs_at(contents: &[Option<Content>], p: ProcId) -> bool
+    requires place { p.0 < length contents.now }
+    requires there { IsSome (slice_index_or contents.now p.0 None) }
+    ensures { result ≡ runs_at p.0 (sides_of contents.now) }
+{
+    contents[p.0 as usize].as_ref().unwrap().is_running()
 }
 
 /// Process p acts.
@@ -55,7 +64,7 @@ pub(crate) fn take_at(
 ) -> Result<Told, OutOfMemory>
     requires place { p.0 < length contents.old }
     requires there { IsSome (slice_index_or contents.old p.0 None) }
-    requires commit { IsCommit bundle.parts }
+    requires parts { IsTaken bundle.parts }
     requires counts { (k : Kept) → slice_index_or contents.old p.0 None ≡ Some k → Counts k }
     ensures answer { IfOk result (λ t. t.answer ≡
         (step_of_bundle p.0 bundle (sides_of contents.old)).answer) }

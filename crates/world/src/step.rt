@@ -1,20 +1,22 @@
 ghost use Rattle.std.specs.Prelude.{◌≡◌, ◌<◌, length, IfOk, OnOk};
 ghost use Rattle.field_rules.specs.RuleBounds.{bounds_of};
+ghost use Rattle.wire_msgs.specs.declared.answer.Answer.TheVariants.{Refused};
+ghost use Rattle.wire_msgs.specs.declared.refusal.Refusal.TheVariants.{Stopped};
 ghost use Rattle.journal.specs.Step.{StepFits};
 ghost use Rattle.content_core.specs.Content.{IsPlayed};
 ghost use Rattle.parent_core.specs.Parent.{IsPlayed as IsPlayedByParent};
-ghost use Rattle.world.specs.Came.{came, acted, taken, heard, parent_acted};
+ghost use Rattle.world.specs.Came.{came, acted, taken, raw_sent, if_running, heard, parent_acted};
 ghost use Rattle.world.specs.Sides.{waiting_at};
 ghost use Rattle.world.specs.Ready.{AreReady};
 ghost use Rattle.world.specs.Stands.{whole};
 
 use crate::deliver::deliver;
-use crate::sides::{Sides, Told, act_at, send_up, take_at};
+use crate::sides::{Sides, Told, act_at, runs_at, send_up, take_at};
 use field_rules::Rules;
 use fission_ids::{Duplicate, OutOfMemory, ProcId};
 use journal::Step;
 use parent_core::{Parent, Ruled};
-use wire_msgs::{Action, Answer, ParentAction, Refusal};
+use wire_msgs::{Action, Answer, ParentAction, Refusal, UpBundle};
 
 /// The parent behind a step, and what the step came to.
 #[derive(Debug, Drop)]
@@ -41,6 +43,7 @@ pub(crate) fn come(
     match step {
         Step::Act { p, action } => act(parent, sides, *p, action.copy()?),
         Step::Take { p } => take(parent, sides, *p),
+        Step::Raw { p, bundle } => raw(parent, sides, *p, bundle.copy()?),
         Step::ParentAct { action } => act_in_parent(parent, sides, action.copy()?),
         Step::Hear { p } => hear(parent, rules, sides, *p),
     }
@@ -62,8 +65,59 @@ fn act(parent: Parent, sides: &mut Sides, p: ProcId, action: Action) -> Result<C
     Ok(Came { parent, answer })
 }
 
-// Process p takes the bundle that waited first.
+// Process p takes the bundle that waited first, if it runs.
 fn take(parent: Parent, sides: &mut Sides, p: ProcId) -> Result<Came, OutOfMemory>
+    requires ready { AreReady parent sides.old }
+    requires process { p.0 < length parent.config.types }
+    ensures config { IfOk result (λ k. k.parent.config ≡ parent.config) }
+    ensures answer { IfOk result (λ k. k.answer ≡
+        (if_running p.0 (whole parent sides.old)
+        (taken p.0 (waiting_at p.0 sides.old.downs.items) (whole parent sides.old))).answer) }
+    ensures state { IfOk result (λ k. whole k.parent sides.new ≡
+        (if_running p.0 (whole parent sides.old)
+        (taken p.0 (waiting_at p.0 sides.old.downs.items) (whole parent sides.old))).state) }
+{
+    if runs_at(sides.contents.as_slice(), p) {
+        take_first(parent, sides, p)
+    } else {
+        Ok(stopped(parent))
+    }
+}
+
+// Process p sends a bundle that is none of its own acts, if it runs.
+fn raw(parent: Parent, sides: &mut Sides, p: ProcId, bundle: UpBundle) -> Result<Came, OutOfMemory>
+    requires ready { AreReady parent sides.old }
+    requires process { p.0 < length parent.config.types }
+    ensures config { IfOk result (λ k. k.parent.config ≡ parent.config) }
+    ensures answer { IfOk result (λ k. k.answer ≡
+        (if_running p.0 (whole parent sides.old) (raw_sent p.0 bundle (whole parent sides.old))).answer) }
+    ensures state { IfOk result (λ k. whole k.parent sides.new ≡
+        (if_running p.0 (whole parent sides.old) (raw_sent p.0 bundle (whole parent sides.old))).state) }
+{
+    if runs_at(sides.contents.as_slice(), p) {
+        send_up(sides.ups.as_mut_slice(), p, Some(bundle))?;
+        Ok(Came {
+            parent,
+            answer: Answer::Done,
+        })
+    } else {
+        Ok(stopped(parent))
+    }
+}
+
+// A process that stopped takes and sends nothing.
+fn stopped(parent: Parent) -> Came
+    ensures parent { result.parent ≡ parent }
+    ensures answer { result.answer ≡ Refused Stopped }
+{
+    Came {
+        parent,
+        answer: Answer::Refused(Refusal::Stopped),
+    }
+}
+
+// Process p takes the bundle that waited first.
+fn take_first(parent: Parent, sides: &mut Sides, p: ProcId) -> Result<Came, OutOfMemory>
     requires ready { AreReady parent sides.old }
     requires process { p.0 < length parent.config.types }
     ensures config { IfOk result (λ k. k.parent.config ≡ parent.config) }
@@ -90,7 +144,7 @@ fn act_in_parent(
     action: ParentAction,
 ) -> Result<Came, OutOfMemory>
     requires ready { AreReady parent sides.old }
-    requires action { IsPlayedByParent action }
+    requires action { IsPlayedByParent (length parent.config.types) action }
     ensures config { IfOk result (λ k. k.parent.config ≡ parent.config) }
     ensures answer { IfOk result (λ k. k.answer ≡
         (parent_acted (length parent.config.types) action (whole parent sides.old)).answer) }

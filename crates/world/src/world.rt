@@ -1,24 +1,27 @@
 ghost use Rattle.std.specs.Prelude.{◌≡◌, ℕ, ◌<◌, ◌≤◌, ◌∷◌, ◌&&◌, not, length, true, false, nat_lt, is_some};
-ghost use Rattle.std.specs.Prelude.{IfOk, IfSome, OnOk, Some};
+ghost use Rattle.std.specs.Prelude.{IfOk, IfSome, OnOk, None, Some};
 ghost use Rattle.fission_ids.specs.declared.context.ContextId.{ContextId};
 ghost use Rattle.field_table.specs.declared.field.Field.{Field};
 ghost use Rattle.field_rules.specs.RuleBounds.{bounds_of};
 ghost use Rattle.wire_msgs.specs.Config.{ConfigFits};
+ghost use Rattle.wire_msgs.specs.declared.answer.Answer.TheVariants.{Ended};
+ghost use Rattle.wire_msgs.specs.declared.cause.EndCause.{EndCause};
+ghost use Rattle.wire_msgs.specs.declared.cause.EndCause.TheVariants.{Killed};
 ghost use Rattle.journal.specs.Step.{StepFits};
-ghost use Rattle.journal.specs.declared.entry.Step.TheVariants.{Take};
+ghost use Rattle.journal.specs.declared.entry.Step.TheVariants.{Take, Hear};
 ghost use Rattle.protocol.specs.Start.{is_held_at_start};
 ghost use Rattle.content_core.specs.Content.{seen_of};
 ghost use Rattle.parent_core.specs.Parent.{facts_of};
-ghost use Rattle.model.specs.Laws.{RunFits};
+ghost use Rattle.model.specs.Laws.{RunFits, EndsAlone};
 ghost use Rattle.model.specs.Links.{is_quiet, is_nothing, up_waiting, down_waiting};
-ghost use Rattle.model.specs.Moments.{facts_now, seen_now};
+ghost use Rattle.model.specs.Moments.{facts_now, seen_now, moments_of};
 ghost use Rattle.model.specs.Settling.{moments_in};
-ghost use Rattle.model.specs.Next.{run_at_start, run_after};
+ghost use Rattle.model.specs.Next.{run_at_start, run_after, moment_after};
 ghost use Rattle.model.specs.View.{view, parent_view, base, point, value_at, newest, is_answered};
-ghost use Rattle.model.specs.View.{IsOnItsWay, reverted_in, sent_first};
+ghost use Rattle.model.specs.View.{IsOnItsWay, reverted_in, sent_first, is_honest};
 ghost use Rattle.world.specs.Stands.{most_entries};
 
-use crate::sides::Sides;
+use crate::sides::{Sides, runs_at};
 use crate::start::start_sides;
 use crate::step::{Came, come};
 use content_core::Content;
@@ -69,17 +72,26 @@ impl World {
         requires step { StepFits (length self.config.types) step }
         requires room { length self.journal < most_entries }
         ensures run { IfOk result (λ w. w ≡ run_after (bounds_of rules.now) self step) }
+        // Of an honest process no base and no point falls.
         ensures base { IfOk result (λ w. (p : ℕ) (x : ContextId) (f : Field) → p < length self.config.types →
+            is_honest w.config p w.journal ≡ true →
             base self.config p x f self.journal ≤ base w.config p x f w.journal) }
         ensures point { IfOk result (λ w. (p : ℕ) (x : ContextId) (f : Field) → p < length self.config.types →
+            is_honest w.config p w.journal ≡ true →
             point self.config p x f self.journal ≤ point w.config p x f w.journal) }
-        // A process that takes the bundle which reverts its newest write to a field shows the parent's value
-        // at the entry that sent it.
+        // An honest process that takes the bundle which reverts its newest write to a field shows the
+        // parent's value at the entry that sent it.
         ensures reverted { IfOk result (λ w. (p : ProcId) (x : ContextId) (f : Field) (k : ℕ) →
-            step ≡ Take p → is_held_at_start self.config.tabs p.0 x ≡ true →
+            step ≡ Take p → is_honest self.config p.0 self.journal ≡ true →
+            is_held_at_start self.config.tabs p.0 x ≡ true →
             sent_first self.config p.0 self.journal ≡ Some k →
             reverted_in (newest self.config p.0 x f self.journal) self.config p.0 x f self.journal ≡ Some k →
             view w.config p.0 x f w.journal ≡ Some (value_at self.config p.0 x f k self.journal)) }
+        // A bundle that ends its sender does nothing else.
+        ensures ends { IfOk result (λ w. (p : ProcId) (cause : EndCause) → step ≡ Hear p →
+            (moment_after (bounds_of rules.now) self.config self.journal step).answer ≡ Ended cause →
+            EndsAlone self.config p.0 (moment_after (bounds_of rules.now) self.config self.journal step)
+            (moments_of self.config self.journal)) }
     {
         let World {
             parent,
@@ -129,31 +141,40 @@ impl World {
     }
 
     /// Process p, or None exactly where there is no such process. It answers what the model tells by looking
-    /// back, and it shows of each field the optimistic view: its newest own write not yet answered, else the
-    /// parent's value at its point.
+    /// back. If it is honest, then it shows of each field the optimistic view: its newest own write not yet
+    /// answered, else the parent's value at its point.
     pub fn content(&self, p: ProcId) -> Option<&Content>
         ensures there { is_some result ≡ nat_lt p.0 (length self.now.config.types) }
         ensures process { IfSome result (λ c. c.now.process ≡ p.0) }
         ensures answers { IfSome result (λ c.
             seen_of c.now ≡ seen_now self.now.config p.0 (moments_in self.now)) }
-        ensures shows { IfSome result (λ c. (x : ContextId) (f : Field) →
+        ensures shows { IfSome result (λ c. is_honest self.now.config p.0 self.now.journal ≡ true →
+            (x : ContextId) (f : Field) →
             (seen_of c.now).value x f ≡ view self.now.config p.0 x f self.now.journal) }
         // A reverted write that isn't answered has its revert on its way.
-        ensures reverts { IfSome result (λ c. (x : ContextId) (f : Field) (n k : ℕ) →
+        ensures reverts { IfSome result (λ c. is_honest self.now.config p.0 self.now.journal ≡ true →
+            (x : ContextId) (f : Field) (n k : ℕ) →
             reverted_in n self.now.config p.0 x f self.now.journal ≡ Some k →
             is_answered n self.now.config p.0 x f self.now.journal ≡ false →
             IsOnItsWay k (value_at self.now.config p.0 x f k self.now.journal)
             self.now.config p.0 x f self.now.journal) }
+        // An honest process is ended by a kill alone.
+        ensures killed { IfSome result (λ c. is_honest self.now.config p.0 self.now.journal ≡ true →
+            (cause : EndCause) →
+            (facts_now self.now.config (moments_in self.now)).processes.ended p.0 ≡ Some cause →
+            cause ≡ Killed) }
     {
         self.sides.contents.get(p.0 as usize)?.as_ref()
     }
 
-    /// Whether nothing waits on either link of process p. Then the process shows of each context that it
-    /// holds what the parent shows.
+    /// Whether nothing waits on either link of process p. If the process is honest and wasn't ended, it then
+    /// shows of each context that it holds what the parent shows.
     pub fn is_quiet(&self, p: ProcId) -> bool
         requires { p.0 < length self.now.config.types }
         ensures exact { result ≡ is_quiet self.now.config p.0 self.now.journal }
-        ensures shows { result ≡ true → (x : ContextId) (f : Field) →
+        ensures shows { result ≡ true → is_honest self.now.config p.0 self.now.journal ≡ true →
+            (facts_now self.now.config (moments_in self.now)).processes.ended p.0 ≡ None →
+            (x : ContextId) (f : Field) →
             is_held_at_start self.now.config.tabs p.0 x ≡ true →
             view self.now.config p.0 x f self.now.journal ≡ parent_view self.now.config x f self.now.journal }
     {
@@ -184,13 +205,21 @@ impl World {
         !self.sides.downs[p.0 as usize].is_empty()
     }
 
-    // Whether process p runs, as each does so far, and anything waits for it.
+    // Whether process p runs.
+    fn runs(&self, p: ProcId) -> bool
+        requires { p.0 < length self.now.config.types }
+        ensures { result ≡ (seen_now self.now.config p.0 (moments_in self.now)).running }
+    {
+        runs_at(self.sides.contents.as_slice(), p)
+    }
+
+    // Whether process p runs, and anything waits for it.
     pub(crate) fn can_take(&self, p: ProcId) -> bool
         requires { p.0 < length self.now.config.types }
         ensures { result ≡ ((seen_now self.now.config p.0 (moments_in self.now)).running
             && not (is_nothing (down_waiting p.0 (moments_in self.now)))) }
     {
-        self.waits_down(p)
+        self.runs(p) && self.waits_down(p)
     }
 }
 

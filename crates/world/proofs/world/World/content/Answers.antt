@@ -1,4 +1,4 @@
-use Rattle.std.proofs.Common.{◌≡◌, ◌<◌, nat_lt, length, Option, None, Some, is_some, ap, sym, subst, ◌∙◌}
+use Rattle.std.proofs.Common.{◌≡◌, ◌<◌, true, nat_lt, length, Option, None, Some, is_some, ap, sym, subst, ◌∙◌}
 use Rattle.std.specs.Prelude.{IfSome, slice_index_or}
 use Rattle.fission_ids.specs.declared.context.ContextId.{ContextId}
 use Rattle.field_table.specs.declared.field.Field.{Field}
@@ -9,8 +9,9 @@ use Rattle.model.specs.Moments.{seen_now, moments_of}
 use Rattle.model.specs.Next.{Run}
 use Rattle.model.specs.Settling.{moments_in}
 use Rattle.model.specs.Laws.{RunFits}
-use Rattle.model.specs.View.{view}
+use Rattle.model.specs.View.{view, is_honest}
 use Rattle.model.proofs.Reverted.{reverts_stand}
+use Rattle.model.proofs.ShownLaws.{only_killed}
 use Rattle.world.specs.Sides.{side_of}
 use Rattle.world.specs.Stands.{side}
 use Rattle.world.proofs.Shown.{contents_count, held_at, shows_at, number_at, answers_at, is_there}
@@ -37,7 +38,7 @@ returns-clause-there c =
 
 pub returns-clause-shows : goal.returns-clause-shows
 returns-clause-shows c =
-    subst (λ (r : Run). IfSome c.as_ref.result (λ k. (x : ContextId) (f : Field) → (seen_of k.now).value x f ≡ view r.config c.args.p.0 x f r.journal)) c.self.view_is
+    subst (λ (r : Run). IfSome c.as_ref.result (λ k. is_honest r.config c.args.p.0 r.journal ≡ true → (x : ContextId) (f : Field) → (seen_of k.now).value x f ≡ view r.config c.args.p.0 x f r.journal)) c.self.view_is
     (shows_at c.self.inside.parent.config c.self.inside.journal c.self.inside.parent c.self.inside.sides.contents.items c.self.inside.sides.ups.items c.self.inside.sides.downs.items c.self.invariant
     c.args.p.0 c.in_ok-get.field-0.now c.as_ref.result (within c) (held c) c.as_ref.ensures.value)
 
@@ -60,5 +61,11 @@ if_some (Some x) holds = holds
 pub returns-clause-reverts : goal.returns-clause-reverts
 returns-clause-reverts c =
     if_some c.as_ref.result
-    (λ x f n k. reverts_stand c.args.self.now c.args.p.0 x f n k (subst RunFits c.self.view_is c.self.invariant.fits)
-    (subst (λ (r : Run). c.args.p.0 < length r.config.types) c.self.view_is (within c)))
+    (λ honest x f n k. reverts_stand c.args.self.now c.args.p.0 x f n k (subst RunFits c.self.view_is c.self.invariant.fits)
+    (subst (λ (r : Run). c.args.p.0 < length r.config.types) c.self.view_is (within c)) honest)
+
+pub returns-clause-killed : goal.returns-clause-killed
+returns-clause-killed c =
+    if_some c.as_ref.result
+    (λ honest cause. only_killed c.args.self.now c.args.p.0 cause (subst RunFits c.self.view_is c.self.invariant.fits)
+    (subst (λ (r : Run). c.args.p.0 < length r.config.types) c.self.view_is (within c)) honest)

@@ -14,9 +14,9 @@ not_nothing_by r true e n = refl
 not_nothing_by r false e n = cc
 
 pub returns-then-not-waits_up-clause-shows : goal.returns-then-not-waits_up-clause-shows
-returns-then-not-waits_up-clause-shows c quiet x f held =
+returns-then-not-waits_up-clause-shows c quiet honest alive x f held =
     let up : is_nothing (up_waiting c.args.p.0 (moments_in c.args.self.now)) ≡ true = is_nothing_by (is_nothing (up_waiting c.args.p.0 (moments_in c.args.self.now))) c.if-not-waits_up.ensures in
     let down : is_nothing (down_waiting c.args.p.0 (moments_in c.args.self.now)) ≡ true =
     not_nothing_by c.waits_down.result (is_nothing (down_waiting c.args.p.0 (moments_in c.args.self.now))) c.waits_down.ensures quiet in
     let both : is_quiet c.args.self.now.config c.args.p.0 c.args.self.now.journal ≡ true = ap₂ (λ a b. a && b) up down in
-    quiet_shows c.args.self.now c.args.p.0 x f c.fits.ensures c.requires both held
+    quiet_shows c.args.self.now c.args.p.0 x f c.fits.ensures c.requires honest alive both held

@@ -1,14 +1,17 @@
-use Rattle.std.proofs.Common.{◌≡◌, ◌<◌, ◌≤◌, length, Some, ap, sym, subst, ◌∙◌}
+use Rattle.std.proofs.Common.{◌≡◌, ◌<◌, ◌≤◌, true, length, Some, ap, sym, subst, ◌∙◌}
+use Rattle.wire_msgs.specs.declared.answer.Answer.TheVariants.{Ended}
 use Rattle.journal.specs.Step.{StepFits}
 use Rattle.journal.specs.declared.entry.Step.{Step}
 use Rattle.model.specs.Journal.{Journal}
-use Rattle.model.specs.Laws.{RunFits}
+use Rattle.model.specs.Laws.{RunFits, EndsAlone}
+use Rattle.model.specs.Moments.{moments_of}
 use Rattle.field_rules.specs.Bounds.{Bounds}
 use Rattle.field_rules.specs.RuleBounds.{bounds_of}
 use Rattle.journal.specs.declared.entry.Entry.{Entry}
-use Rattle.model.specs.Next.{Run, run_after, run_with, moment_after}
-use Rattle.journal.specs.declared.entry.Step.TheVariants.{Take}
-use Rattle.model.specs.View.{base, point, view, value_at}
+use Rattle.model.specs.Next.{Run, run_after, run_with, moment_after, allowed_by}
+use Rattle.journal.specs.declared.entry.Step.TheVariants.{Take, Hear}
+use Rattle.model.specs.View.{base, point, view, value_at, is_honest}
+use Rattle.model.proofs.Ending.{end_alone}
 use Rattle.model.proofs.Reverted.{revert_shows}
 use Rattle.model.proofs.ShownLaws.{never_fall}
 use Rattle.world.specs.Stands.{most_entries, state_of}
@@ -51,18 +54,26 @@ fits_on : (b : Bounds) (r : Run) (s : Step) → RunFits r → StepFits (length r
 fits_on b r s fits fit = record { config = fits.config; steps = (fit, fits.steps) }
 
 pub returns-clause-base : goal.returns-clause-base
-returns-clause-base g c p x f lt =
+returns-clause-base g c p x f lt own =
     subst (λ (r : Run). base c.args.self.config p x f c.args.self.journal ≤ base r.config p x f r.journal) (sym (returns-clause-run g c))
-    ((never_fall c.args.self (entry_of (bounds_of c.args.rules.now) c.args.self c.args.step) p x f (fits_on (bounds_of c.args.rules.now) c.args.self c.args.step (subst RunFits c.self.view_is c.self.invariant.fits) c.requires.step) lt).0)
+    ((never_fall c.args.self (entry_of (bounds_of c.args.rules.now) c.args.self c.args.step) p x f (fits_on (bounds_of c.args.rules.now) c.args.self c.args.step (subst RunFits c.self.view_is c.self.invariant.fits) c.requires.step) lt
+    (subst (λ (r : Run). is_honest r.config p r.journal ≡ true) (returns-clause-run g c) own)).0)
 
 pub returns-clause-point : goal.returns-clause-point
-returns-clause-point g c p x f lt =
+returns-clause-point g c p x f lt own =
     subst (λ (r : Run). point c.args.self.config p x f c.args.self.journal ≤ point r.config p x f r.journal) (sym (returns-clause-run g c))
-    ((never_fall c.args.self (entry_of (bounds_of c.args.rules.now) c.args.self c.args.step) p x f (fits_on (bounds_of c.args.rules.now) c.args.self c.args.step (subst RunFits c.self.view_is c.self.invariant.fits) c.requires.step) lt).1)
+    ((never_fall c.args.self (entry_of (bounds_of c.args.rules.now) c.args.self c.args.step) p x f (fits_on (bounds_of c.args.rules.now) c.args.self c.args.step (subst RunFits c.self.view_is c.self.invariant.fits) c.requires.step) lt
+    (subst (λ (r : Run). is_honest r.config p r.journal ≡ true) (returns-clause-run g c) own)).1)
 
 pub returns-clause-reverted : goal.returns-clause-reverted
-returns-clause-reverted g c p x f k is held sent reverted =
+returns-clause-reverted g c p x f k is honest held sent reverted =
     subst (λ (r : Run). view r.config p.0 x f r.journal ≡ Some (value_at c.args.self.config p.0 x f k c.args.self.journal)) (sym (returns-clause-run g c))
     (subst (λ (s : Step). RunFits (run_with c.args.self (entry_of (bounds_of c.args.rules.now) c.args.self s)) → view c.args.self.config p.0 x f (run_after (bounds_of c.args.rules.now) c.args.self s).journal ≡ Some (value_at c.args.self.config p.0 x f k c.args.self.journal)) (sym is)
-    (λ fits. revert_shows c.args.self (moment_after (bounds_of c.args.rules.now) c.args.self.config c.args.self.journal (Take p)).answer p x f k fits held sent reverted)
+    (λ fits. revert_shows c.args.self (moment_after (bounds_of c.args.rules.now) c.args.self.config c.args.self.journal (Take p)).answer p x f k fits honest held sent reverted)
     (fits_on (bounds_of c.args.rules.now) c.args.self c.args.step (subst RunFits c.self.view_is c.self.invariant.fits) c.requires.step))
+
+pub returns-clause-ends : goal.returns-clause-ends
+returns-clause-ends g c p cause is over =
+    subst (λ (s : Step). (moment_after (bounds_of c.args.rules.now) c.args.self.config c.args.self.journal s).answer ≡ Ended cause
+    → EndsAlone c.args.self.config p.0 (moment_after (bounds_of c.args.rules.now) c.args.self.config c.args.self.journal s) (moments_of c.args.self.config c.args.self.journal)) (sym is)
+    (end_alone c.args.self.config (moments_of c.args.self.config c.args.self.journal) (allowed_by (bounds_of c.args.rules.now) (moments_of c.args.self.config c.args.self.journal) (Hear p)) p cause) over

@@ -10,7 +10,7 @@ use Rattle.wire_msgs.specs.declared.answer.Answer.{Answer}
 use Rattle.wire_msgs.specs.declared.answer.Answer.TheVariants.{Done, Context, Tab, Query, Target, Parts}
 use Rattle.wire_msgs.specs.declared.answer.Answer.TheVariants.{Ended, Ignored, Refused}
 use Rattle.journal.specs.declared.entry.Step.{Step}
-use Rattle.journal.specs.declared.entry.Step.TheVariants.{Act, Take, ParentAct, Hear}
+use Rattle.journal.specs.declared.entry.Step.TheVariants.{Act, Take, Raw, ParentAct, Hear}
 use Rattle.report_words.specs.Pieces.{text_of_pieces, after_blank, process_text}
 use Rattle.report_words.specs.Refusals.{refusal_text, cause_text}
 use Rattle.report_words.specs.Notes.{note_text}
@@ -42,6 +42,7 @@ parent_action_text (parents.Kill process) = codes "kill"
 unfoldable pub step_text : Step → List ℕ
 step_text (Act p action) = text_of_pieces (process_text p ∷ codes " " ∷ action_text action ∷ [])
 step_text (Take p) = process_text p ++ codes " take"
+step_text (Raw p bundle) = process_text p ++ codes " raw"
 step_text (ParentAct action) = codes "parent " ++ parent_action_text action
 step_text (Hear p) = codes "parent hear " ++ process_text p
 

@@ -60,6 +60,13 @@ fn take_words(alloc: Global, p: ProcId) -> Result<String, OutOfMemory>
     pair(alloc, p.as_str(), "take")
 }
 
+fn raw_words(alloc: Global, p: ProcId) -> Result<String, OutOfMemory>
+    ensures { IfOk result (λ s. string_bytes s ≡ process_text p ++ codes " raw") }
+{
+    let p = process_words(alloc, p)?;
+    pair(alloc, p.as_str(), "raw")
+}
+
 /// The text of a step: who acted, and the verb of what was done.
 #[tactic(auto, unfolding(crate::specs::Words::step_text))]
 pub fn step_words(alloc: Global, step: &Step) -> Result<String, OutOfMemory>
@@ -68,6 +75,7 @@ pub fn step_words(alloc: Global, step: &Step) -> Result<String, OutOfMemory>
     match step {
         Step::Act { p, action } => act_words(alloc, *p, action),
         Step::Take { p } => take_words(alloc, *p),
+        Step::Raw { p, .. } => raw_words(alloc, *p),
         Step::ParentAct { action } => pair(alloc, "parent", parent_action_verb(action)),
         Step::Hear { p } => with_process(alloc, "parent hear", *p),
     }

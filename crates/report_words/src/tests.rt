@@ -6,7 +6,7 @@ use std::alloc::Global;
 use std::test::Fail;
 use wire_msgs::{
     Action, Answer, Counted, EndCause, FieldMark, FieldNote, LoadMark, Mark, ParentAction,
-    PartNote, Refusal,
+    PartNote, Refusal, UpBundle,
 };
 
 const CONTEXT: ContextId = ContextId {
@@ -88,10 +88,18 @@ fn texts_of_steps(rt: HostRuntime) -> Result<(), Fail> {
     let p = ProcId(7);
     let own = Action::Close { window: WINDOW };
     let action = ParentAction::Discard { context: CONTEXT };
+    let kill = ParentAction::Kill { process: p };
+    let bundle = UpBundle {
+        epoch: Epoch(1),
+        seen: 0,
+        parts: Seq::new(alloc),
+    };
     for (step, text) in [
         (Step::Act { p, action: own }, "p7 close"),
         (Step::Take { p: ProcId(0) }, "p0 take"),
+        (Step::Raw { p, bundle }, "p7 raw"),
         (Step::ParentAct { action }, "parent discard"),
+        (Step::ParentAct { action: kill }, "parent kill"),
         (Step::Hear { p }, "parent hear p7"),
     ] {
         assert_eq!(rt; step_words(alloc, &step)?.as_str(), text);

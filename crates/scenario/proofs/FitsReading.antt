@@ -1,6 +1,6 @@
 -- What holds of each scenario that is read.
 use Rattle.std.proofs.Common.{◌≡◌, ℕ, suc, ◌+◌, ◌<◌, ◌≤◌, Bool, true, false, ◌&&◌, cond, ltb, leb, nat_eq, lit≤, List, [], ◌∷◌, length, Option, Some, Result, Ok, Err, refl, ap, subst, arith}
-use Rattle.std.specs.Prelude.{IfOk, codes, option_and_then}
+use Rattle.std.specs.Prelude.{⊤, IfOk, codes, option_and_then}
 use Rattle.std.specs.List.{AllByRecursion}
 use Rattle.std.proofs.lemmas.Bool.{ltb-true, leb-true}
 use Rattle.serde_json.specs.Data.{Data, Items, no_items, item}
@@ -14,6 +14,10 @@ use Rattle.field_table.specs.declared.field.Field.{Field}
 use Rattle.transaction.specs.Transaction.{Changes}
 use Rattle.wire_msgs.specs.declared.config.StartTab.{StartTab}
 use Rattle.wire_msgs.specs.Config.{is_remote_type, IsRemoteType, TabFits}
+use Rattle.wire_msgs.specs.declared.action.ParentAction.TheVariants as parents
+use Rattle.wire_msgs.specs.declared.part.UpPart.{UpPart}
+use Rattle.wire_msgs.specs.declared.part.UpPart.TheVariants as ups
+use Rattle.protocol.specs.Commits.{AreCommits}
 use Rattle.journal.specs.Step.{StepFits}
 use Rattle.journal.specs.declared.entry.Step.TheVariants as steps
 use Rattle.scenario.specs.declared.fault.ReadFault.{ReadFault}
@@ -28,7 +32,7 @@ use Rattle.fission_ids.specs.Gives.{Gives}
 use Rattle.scenario.specs.Faults.{is_memory, ◌>>=◌, asks, or_shape}
 use Rattle.scenario.specs.declared.members.Kind.TheVariants as kinds
 use Rattle.scenario.specs.Members.{allows, has_only, is_text, whole_number}
-use Rattle.scenario.specs.Reading.{type_of, types_of, processes_of, process_of, items_in, process_numbers, all_differ, are_others, proc_set_of, also_of, start_tab_of, start_tabs_of, context_at, transaction_of, write_of, set_line, take_line, hear_line, settle_line, actor_of, field_of, show_line, line_of, lines_of, with_types, scenario_of, or_unread, data_of, reading}
+use Rattle.scenario.specs.Reading.{type_of, types_of, processes_of, process_of, items_in, process_numbers, all_differ, are_others, proc_set_of, also_of, start_tab_of, start_tabs_of, context_at, transaction_of, write_of, set_line, take_line, hear_line, kill_line, commit_part, raw_part, raw_parts, parts_of, raw_of, raw_line, settle_line, actor_of, field_of, show_line, line_of, lines_of, with_types, scenario_of, or_unread, data_of, reading}
 use Rattle.scenario.specs.Fits.{ActorFits, LineFits, Fits}
 use Rattle.scenario.proofs.Also.{set_below, set_of_others}
 
@@ -211,6 +215,84 @@ hear_fits place n d l e =
     let p = bind_ok (process_of place n from) (λ p. Ok (lines.Step (steps.Hear p))) l b.1 in
     subst (λ (y : Line). LineFits n y) (ok_is (lines.Step (steps.Hear p.0)) l p.2) (process_below place n from p.0 p.1)
 
+kill_fits : (place n : ℕ) (d : Data) (l : Line) → kill_line place n d ≡ Ok l → LineFits n l
+unfolding kill_line
+kill_fits place n d l e =
+    let process = get (codes "process") d in
+    let kill : ProcId → Line = λ p. lines.Step (steps.ParentAct (parents.Kill p)) in
+    let ended = process_of place n process >>= λ p. Ok (kill p) in
+    let a = asks_ok place (has_only (allows kinds.Kill) d) (asks place (is_text (codes "parent") (get (codes "at") d)) ended) l e in
+    let b = asks_ok place (is_text (codes "parent") (get (codes "at") d)) ended l a.1 in
+    let p = bind_ok (process_of place n process) (λ p. Ok (kill p)) l b.1 in
+    subst (λ (y : Line). LineFits n y) (ok_is (kill p.0) l p.2) (process_below place n process p.0 p.1)
+
+-- the part is a commit
+abbrev IsCommit : UpPart → Type 0
+IsCommit (ups.Commit x t) = ⊤
+IsCommit part = ⊥
+
+commit_part_fits : (place : ℕ) (d : Data) (part : UpPart) → commit_part place d ≡ Ok part → IsCommit part
+unfolding commit_part
+commit_part_fits place d part e =
+    let found = context_at place (get (codes "context") d) in
+    let changed = transaction_of place (get (codes "fields") d) in
+    let commit : ContextId → Changes → UpPart = λ x t. ups.Commit x t in
+    let read : ContextId → Result UpPart ReadFault = λ x. changed >>= λ t. Ok (commit x t) in
+    let a = asks_ok place (has_only (allows kinds.CommitPart) d) (found >>= read) part e in
+    let x = bind_ok found read part a.1 in
+    let t = bind_ok changed (λ t. Ok (commit x.0 t)) part x.2 in
+    subst (λ (y : UpPart). IsCommit y) (ok_is (commit x.0 t.0) part t.2) tt
+
+part_fits : (place : ℕ) (d : Data) (part : UpPart) → raw_part place d ≡ Ok part → IsCommit part
+unfolding raw_part
+part_fits place d part e =
+    either IsCommit (is_text (codes "commit") (get (codes "part") d)) (commit_part place d) (Err (Shape place)) part (commit_part_fits place d part) (λ h. absurd cc) e
+
+-- the parts of the items
+record PartsFit (ds : Items) (parts : List UpPart) : Type 0 where
+  all : AllByRecursion IsCommit parts
+  len : length parts ≡ items_len ds
+
+parts_fit : (place : ℕ) (ds : Items) (parts : List UpPart) → raw_parts place ds ≡ Ok parts → PartsFit ds parts
+unfolding raw_parts
+parts_fit place no_items parts e = subst (λ (y : List UpPart). PartsFit no_items y) (ok_is [] parts e) (record { all = tt; len = refl })
+parts_fit place (item d ds) parts e =
+    let a = bind_ok (raw_part place d) (λ part. raw_parts place ds >>= λ more. Ok (part ∷ more)) parts e in
+    let b = bind_ok (raw_parts place ds) (λ more. Ok (a.0 ∷ more)) parts a.2 in
+    let rest = parts_fit place ds b.0 b.1 in
+    subst (λ (y : List UpPart). PartsFit (item d ds) y) (ok_is (a.0 ∷ b.0) parts b.2) (record { all = (part_fits place d a.0 a.1, rest.all); len = ap suc rest.len })
+
+are_commits : (parts : List UpPart) → AllByRecursion IsCommit parts → 0 < length parts → AreCommits parts
+are_commits [] all some = absurd (omega (arith, some))
+are_commits (ups.Commit x t ∷ []) all some = tt
+are_commits (ups.Commit x t ∷ part ∷ parts) all some = are_commits (part ∷ parts) all.1 (omega arith)
+are_commits (part ∷ parts) all some = absurd all.0
+
+bundle_fits : (place : ℕ) (found : Option Data) (parts : List UpPart) → parts_of place found ≡ Ok parts → AreCommits parts
+unfolding parts_of
+bundle_fits place found parts e =
+    let a = bind_ok (or_shape place (option_and_then as_array found)) (λ ds. asks place (ltb 0 (items_len ds) && leb (items_len ds) 16) (raw_parts place ds)) parts e in
+    let b = asks_ok place (ltb 0 (items_len a.0) && leb (items_len a.0) 16) (raw_parts place a.0) parts a.2 in
+    let fit = parts_fit place a.0 parts b.1 in
+    are_commits parts fit.all (omega (arith, fit.len, ltb-true 0 (items_len a.0) (first_true (ltb 0 (items_len a.0)) (leb (items_len a.0) 16) b.0)))
+
+raw_fits : (place n : ℕ) (d : Data) (l : Line) → raw_line place n d ≡ Ok l → LineFits n l
+unfolding raw_line
+raw_fits place n d l e =
+    let at = get (codes "at") d in
+    let told = or_shape place (whole_number (get (codes "epoch") d)) in
+    let taken = or_shape place (whole_number (get (codes "seen") d)) in
+    let found = get (codes "parts") d in
+    let raw : ProcId → ℕ → ℕ → List UpPart → Line = λ p epoch seen parts. lines.Step (raw_of p epoch seen parts) in
+    let seen_by : ProcId → ℕ → ℕ → Result Line ReadFault = λ p epoch seen. parts_of place found >>= λ parts. Ok (raw p epoch seen parts) in
+    let sent_by : ProcId → ℕ → Result Line ReadFault = λ p epoch. taken >>= seen_by p epoch in
+    let a = asks_ok place (has_only (allows kinds.Raw) d) (process_of place n at >>= λ p. told >>= sent_by p) l e in
+    let p = bind_ok (process_of place n at) (λ p. told >>= sent_by p) l a.1 in
+    let epoch = bind_ok told (sent_by p.0) l p.2 in
+    let seen = bind_ok taken (seen_by p.0 epoch.0) l epoch.2 in
+    let parts = bind_ok (parts_of place found) (λ parts. Ok (raw p.0 epoch.0 seen.0 parts)) l seen.2 in
+    subst (λ (y : Line). LineFits n y) (ok_is (raw p.0 epoch.0 seen.0 parts.0) l parts.2) (record { process = process_below place n at p.0 p.1; parts = bundle_fits place found parts.0 parts.1 })
+
 settle_fits : (place n : ℕ) (d : Data) (l : Line) → settle_line place d ≡ Ok l → LineFits n l
 unfolding settle_line
 settle_fits place n d l e =
@@ -236,12 +318,16 @@ line_fits place n d l e =
     let does = get (codes "do") d in
     let show = cond (is_text (codes "show") does) (show_line place n d) (Err (Shape place)) in
     let settle = cond (is_text (codes "settle") does) (settle_line place d) show in
-    let hear = cond (is_text (codes "hear") does) (hear_line place n d) settle in
+    let raw = cond (is_text (codes "raw") does) (raw_line place n d) settle in
+    let kill = cond (is_text (codes "kill") does) (kill_line place n d) raw in
+    let hear = cond (is_text (codes "hear") does) (hear_line place n d) kill in
     let take = cond (is_text (codes "take") does) (take_line place n d) hear in
     let none : Err (Shape place) ≡ Ok l → LineFits n l = λ h. absurd cc in
     let shown : show ≡ Ok l → LineFits n l = either (LineFits n) (is_text (codes "show") does) (show_line place n d) (Err (Shape place)) l (show_fits place n d l) none in
     let settled : settle ≡ Ok l → LineFits n l = either (LineFits n) (is_text (codes "settle") does) (settle_line place d) show l (settle_fits place n d l) shown in
-    let heard : hear ≡ Ok l → LineFits n l = either (LineFits n) (is_text (codes "hear") does) (hear_line place n d) settle l (hear_fits place n d l) settled in
+    let sent : raw ≡ Ok l → LineFits n l = either (LineFits n) (is_text (codes "raw") does) (raw_line place n d) settle l (raw_fits place n d l) settled in
+    let ended : kill ≡ Ok l → LineFits n l = either (LineFits n) (is_text (codes "kill") does) (kill_line place n d) raw l (kill_fits place n d l) sent in
+    let heard : hear ≡ Ok l → LineFits n l = either (LineFits n) (is_text (codes "hear") does) (hear_line place n d) kill l (hear_fits place n d l) ended in
     let taken : take ≡ Ok l → LineFits n l = either (LineFits n) (is_text (codes "take") does) (take_line place n d) hear l (take_fits place n d l) heard in
     either (LineFits n) (is_text (codes "set") does) (set_line place n d) take l (set_fits place n d l) taken e
 

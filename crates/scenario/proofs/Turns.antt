@@ -13,7 +13,7 @@ use Rattle.scenario.specs.declared.fault.ReadFault.{ReadFault}
 use Rattle.scenario.specs.declared.fault.ReadFault.TheVariants.{Shape}
 use Rattle.fission_ids.specs.Gives.{FailsWith}
 use Rattle.scenario.specs.Faults.{is_memory, ◌>>=◌, asks}
-use Rattle.scenario.specs.Reading.{type_of, types_of, start_tab_of, start_tabs_of, process_of, line_of, lines_of}
+use Rattle.scenario.specs.Reading.{type_of, types_of, start_tab_of, start_tabs_of, process_of, line_of, lines_of, raw_part, raw_parts}
 use Rattle.scenario.proofs.Loop.{and_then, bind_fails}
 use Rattle.scenario.proofs.Also.{also_from}
 
@@ -54,6 +54,15 @@ lines_past place n vs i v lt is past =
 pub lines_end : (place n : ℕ) (vs : List Value) (i : ℕ) → length vs ≤ i → lines_of place n (items_view (drop i vs)) ≡ Ok []
 unfolding lines_of
 lines_end place n vs i le = rw (drop_all i vs le) refl
+
+pub parts_turn : (place : ℕ) (vs : List Value) (i : ℕ) (v : Value) → i < length vs → v ≡ get_or vs i v
+    → raw_parts place (items_view (drop i vs)) ≡ and_then (raw_part place (view v)) (raw_parts place (items_view (drop (i + 1) vs)))
+unfolding raw_parts
+parts_turn place vs i v lt is = ap (λ xs. raw_parts place (items_view xs)) (next_item vs i v lt is)
+
+pub parts_end : (place : ℕ) (vs : List Value) (i : ℕ) → length vs ≤ i → raw_parts place (items_view (drop i vs)) ≡ Ok []
+unfolding raw_parts
+parts_end place vs i le = rw (drop_all i vs le) refl
 
 pub also_turn : (place n : ℕ) (owner : ProcId) (set : ProcSet) (vs : List Value) (i : ℕ) (v : Value) → i < length vs → v ≡ get_or vs i v
     → also_from place n owner set (items_view (drop i vs)) ≡ (process_of place n (Some (view v)) >>= λ p. asks place (not (nat_eq p.0 owner.0) && not (has set p.0)) (also_from place n owner (with set p.0) (items_view (drop (i + 1) vs))))

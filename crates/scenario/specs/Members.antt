@@ -19,6 +19,10 @@ object_keys kinds.Tab = codes "owner" ∷ codes "also" ∷ []
 object_keys kinds.Set = codes "do" ∷ codes "at" ∷ codes "context" ∷ codes "fields" ∷ []
 object_keys kinds.Take = codes "do" ∷ codes "at" ∷ []
 object_keys kinds.Hear = codes "do" ∷ codes "at" ∷ codes "from" ∷ []
+object_keys kinds.Kill = codes "do" ∷ codes "at" ∷ codes "process" ∷ []
+object_keys kinds.Raw =
+    codes "do" ∷ codes "at" ∷ codes "epoch" ∷ codes "seen" ∷ codes "parts" ∷ []
+object_keys kinds.CommitPart = codes "part" ∷ codes "context" ∷ codes "fields" ∷ []
 object_keys kinds.Settle = codes "do" ∷ []
 object_keys kinds.Show = codes "do" ∷ codes "at" ∷ codes "context" ∷ codes "field" ∷ []
 

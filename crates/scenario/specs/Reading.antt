@@ -22,6 +22,8 @@ use Rattle.field_table.specs.Reading.{value_of}
 use Rattle.transaction.specs.Transaction.{Changes}
 use Rattle.wire_msgs.specs.declared.action.Action.TheVariants as own
 use Rattle.wire_msgs.specs.declared.action.ParentAction.TheVariants as parents
+use Rattle.wire_msgs.specs.declared.part.UpPart.{UpPart}
+use Rattle.wire_msgs.specs.declared.part.UpPart.TheVariants as ups
 use Rattle.wire_msgs.specs.declared.config.StartTab.{StartTab}
 use Rattle.wire_msgs.specs.Config.{is_remote_type}
 use Rattle.journal.specs.declared.entry.Step.{Step}
@@ -173,6 +175,52 @@ hear_line place n d =
     (asks place (is_text (codes "parent") (get (codes "at") d))
     (process_of place n (get (codes "from") d) >>= λ p. Ok (lines.Step (steps.Hear p))))
 
+-- a process that the parent ends
+unfoldable pub kill_line : ℕ → ℕ → Data → Result Line ReadFault
+kill_line place n d =
+    asks place (has_only (allows kinds.Kill) d)
+    (asks place (is_text (codes "parent") (get (codes "at") d))
+    (process_of place n (get (codes "process") d) >>= λ p.
+    Ok (lines.Step (steps.ParentAct (parents.Kill p)))))
+
+-- fields of a context that a bundle writes
+unfoldable pub commit_part : ℕ → Data → Result UpPart ReadFault
+commit_part place d =
+    asks place (has_only (allows kinds.CommitPart) d)
+    (context_at place (get (codes "context") d) >>= λ context.
+    transaction_of place (get (codes "fields") d) >>= λ t. Ok (ups.Commit context t))
+
+-- a part of a bundle; so far it's a commit
+unfoldable pub raw_part : ℕ → Data → Result UpPart ReadFault
+raw_part place d =
+    if is_text (codes "commit") (get (codes "part") d) then commit_part place d else Err (Shape place)
+
+unfoldable pub raw_parts : ℕ → Items → Result (List UpPart) ReadFault
+raw_parts place no_items = Ok []
+raw_parts place (item d ds) =
+    raw_part place d >>= λ part. raw_parts place ds >>= λ parts. Ok (part ∷ parts)
+
+-- 1 to 16 parts
+unfoldable pub parts_of : ℕ → Option Data → Result (List UpPart) ReadFault
+parts_of place found =
+    or_shape place (option_and_then as_array found) >>= λ ds.
+    asks place (nat_lt 0 (items_len ds) && nat_le (items_len ds) 16) (raw_parts place ds)
+
+-- what a process sends with this epoch, when it has taken so many bundles
+abbrev pub raw_of : ProcId → ℕ → ℕ → List UpPart → Step
+raw_of p epoch seen parts =
+    steps.Raw p (record { epoch = record { 0 = epoch }; seen = seen; parts = parts })
+
+-- a bundle that a process sends, whatever it did
+unfoldable pub raw_line : ℕ → ℕ → Data → Result Line ReadFault
+raw_line place n d =
+    asks place (has_only (allows kinds.Raw) d)
+    (process_of place n (get (codes "at") d) >>= λ p.
+    or_shape place (whole_number (get (codes "epoch") d)) >>= λ epoch.
+    or_shape place (whole_number (get (codes "seen") d)) >>= λ seen.
+    parts_of place (get (codes "parts") d) >>= λ parts.
+    Ok (lines.Step (raw_of p epoch seen parts)))
+
 -- all that waits, which is heard and taken
 unfoldable pub settle_line : ℕ → Data → Result Line ReadFault
 settle_line place d = asks place (has_only (allows kinds.Settle) d) (Ok lines.Settle)
@@ -195,9 +243,11 @@ line_of place n d =
     if is_text (codes "set") (get (codes "do") d) then set_line place n d
     else (if is_text (codes "take") (get (codes "do") d) then take_line place n d
     else (if is_text (codes "hear") (get (codes "do") d) then hear_line place n d
+    else (if is_text (codes "kill") (get (codes "do") d) then kill_line place n d
+    else (if is_text (codes "raw") (get (codes "do") d) then raw_line place n d
     else (if is_text (codes "settle") (get (codes "do") d) then settle_line place d
     else (if is_text (codes "show") (get (codes "do") d) then show_line place n d
-    else Err (Shape place)))))
+    else Err (Shape place)))))))
 
 -- the steps from this place on, of which there are at most 20,000
 unfoldable pub lines_of : ℕ → ℕ → Items → Result (List Line) ReadFault

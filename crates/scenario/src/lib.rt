@@ -5,9 +5,11 @@
 #![tactic(auto)]
 
 mod fault;
+mod fields;
 mod line;
 mod members;
 mod processes;
+mod raw;
 mod reading;
 mod steps;
 

@@ -20,6 +20,12 @@ pub enum Kind {
     Take,
     /// A step that hears a bundle.
     Hear,
+    /// A step that ends a process.
+    Kill,
+    /// A step that sends a bundle as it's written.
+    Raw,
+    /// A part of such a bundle, which writes fields.
+    CommitPart,
     /// A step that hears and takes all that waits.
     Settle,
     /// A step that shows a field.
@@ -52,6 +58,11 @@ fn allows(kind: Kind, key: &str) -> bool
         Kind::Set => key == "do" || key == "at" || key == "context" || key == "fields",
         Kind::Take => key == "do" || key == "at",
         Kind::Hear => key == "do" || key == "at" || key == "from",
+        Kind::Kill => key == "do" || key == "at" || key == "process",
+        Kind::Raw => {
+            key == "do" || key == "at" || key == "epoch" || key == "seen" || key == "parts"
+        }
+        Kind::CommitPart => key == "part" || key == "context" || key == "fields",
         Kind::Settle => key == "do",
         Kind::Show => key == "do" || key == "at" || key == "context" || key == "field",
     }

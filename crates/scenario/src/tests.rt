@@ -5,7 +5,7 @@ use journal::Step;
 use std::alloc::{AllocError, Global};
 use std::test::Fail;
 use transaction::Transaction;
-use wire_msgs::{Action, ParentAction};
+use wire_msgs::{Action, ParentAction, UpBundle, UpPart};
 
 // What is told of the three texts in a row.
 fn fault(
@@ -43,6 +43,10 @@ const MOST: &str = r#"{
             "UserAgentOverride": "w", "DisplayMode": 1, "FullZoom": 120, "Muted": false, "Closed": true
         }},
         {"at": "parent", "do": "hear", "from": 2},
+        {"at": "parent", "do": "kill", "process": 2},
+        {"at": 1, "do": "raw", "epoch": 18446744073709551615, "seen": 3, "parts": [
+            {"part": "commit", "context": "c2.7", "fields": {"Muted": true, "Name": "b"}}
+        ]},
         {"do": "settle"}
     ]
 }"#;
@@ -61,6 +65,22 @@ fn write(alloc: Global, line: &Line) -> Result<String, AllocError> {
                 action: Action::Set { context, fields },
             },
         ) => values(alloc, *context, fields.get()),
+        Line::Step(
+            Step::Raw {
+                p: ProcId(1),
+                bundle,
+            },
+        ) => sent(alloc, bundle),
+        _ => Ok(String::new(alloc)),
+    }
+}
+
+fn sent(alloc: Global, bundle: &UpBundle) -> Result<String, AllocError> {
+    match bundle.parts.as_slice() {
+        [UpPart::Commit { context, change }] => {
+            let values = values(alloc, *context, change.get())?;
+            format!(in alloc; "{} {} {values}", bundle.epoch.0, bundle.seen)
+        }
         _ => Ok(String::new(alloc)),
     }
 }
@@ -92,8 +112,8 @@ fn a_scenario_with_most_in_it(rt: HostRuntime) -> Result<(), Fail> {
         return Err("three tabs stand there")?;
     };
     assert!(rt; tab.owner == ProcId(1) && tab.also == ProcSet(0b101));
-    let [high, low, show, _, take, own, hear, settle] = scenario.lines.as_slice() else {
-        return Err("three writes, two shows, a take, a hear and a settle stand there")?;
+    let [high, low, show, _, take, own, hear, kill, raw, settle] = scenario.lines.as_slice() else {
+        return Err("ten steps stand there")?;
     };
     let high = write(rt.alloc(), high)?;
     assert_eq!(rt;
@@ -113,6 +133,12 @@ fn a_scenario_with_most_in_it(rt: HostRuntime) -> Result<(), Fail> {
         "2 7 - true - - - 120 - false - 'w' - - - - - 1"
     );
     assert!(rt; matches!(hear, Line::Step(Step::Hear { p: ProcId(2) })));
+    assert_eq!(rt; ended(kill), Some(ProcId(2)));
+    let raw = write(rt.alloc(), raw)?;
+    assert_eq!(rt;
+        raw.as_str(),
+        "18446744073709551615 3 2 7 'b' - - - - - - true - - - - - - - -"
+    );
     assert!(rt; matches!(settle, Line::Settle));
     Ok(())
 }
@@ -132,6 +158,17 @@ fn shows_display_mode(line: &Line) -> bool {
                 }
         }
         _ => false,
+    }
+}
+
+// The process that a step ends.
+fn ended(line: &Line) -> Option<ProcId> {
+    match line {
+        Line::Step(Step::ParentAct { action }) => match action {
+            ParentAction::Kill { process } => Some(*process),
+            _ => None,
+        },
+        _ => None,
     }
 }
 
@@ -220,6 +257,14 @@ const STEPS: &str = r#"7
 {"do":"hear","at":"parent","from":"0"}
 {"do":"hear","at":"parent","from":0.0}
 {"do":"hear","at":"parent","from":0,"process":0}
+{"do":"kill","at":"parent"}
+{"do":"kill","process":0}
+{"do":"kill","at":0,"process":0}
+{"do":"kill","at":"parent","process":2}
+{"do":"kill","at":"parent","process":0,"from":0}
+{"do":"raw","at":0,"epoch":1,"seen":0}
+{"do":"raw","at":0,"epoch":1,"seen":0,"parts":{}}
+{"do":"raw","at":0,"epoch":1,"seen":0,"parts":[]}
 {"do":"settle","at":"parent"}
 {"do":"settle","at":0}
 {"do":"Settle"}
@@ -252,6 +297,33 @@ c0.1.1
 c0.1 \nC0.1
 w0.1
 0.1";
+
+// Beside a part that is right.
+const RAWS: &str = r#""epoch":1,"seen":0
+"at":0,"seen":0
+"at":0,"epoch":1
+"at":"parent","epoch":1,"seen":0
+"at":2,"epoch":1,"seen":0
+"at":0,"epoch":18446744073709551616,"seen":0
+"at":0,"epoch":1,"seen":18446744073709551616
+"at":0,"epoch":"1","seen":0
+"at":0,"epoch":1,"seen":-1
+"at":0,"epoch":1,"seen":0,"context":"c0.1""#;
+
+// Behind 15 parts that are right.
+const PARTS: &str = r#"7
+{}
+{"part":"commit","context":"c0.1"}
+{"part":"commit","fields":{"Name":""}}
+{"part":"commit","context":"c0.0","fields":{"Name":""}}
+{"part":"commit","context":"c0.1","fields":{}}
+{"part":"commit","context":"c0.1","fields":{"Name":1}}
+{"part":"commit","context":"c0.1","fields":{"Name":""},"url":"about:blank"}
+{"do":"commit","context":"c0.1","fields":{"Name":""}}
+{"part":"Commit","context":"c0.1","fields":{"Name":""}}
+{"part":"ack","context":"c0.1"}"#;
+
+const RIGHT_PART: &str = r#"{"part":"commit","context":"c0.1","fields":{"Name":""}}"#;
 
 // A member beside one that is right. Two texts have 65 bytes.
 const MEMBERS: &str = r#""CurrentInnerWindowId":1
@@ -290,9 +362,21 @@ const RIGHT_MEMBERS: &str = r#""Muted":false
 "TextZoom":4294967295
 "Name":"éééééééééééééééééééééééééééééééé""#;
 
+fn repeated(alloc: Global, text: &str, count: usize) -> Result<String, AllocError> {
+    let mut all = String::new(alloc);
+    for i in 0..count {
+        if i > 0 {
+            all.push(',')?;
+        }
+        all.push_str(text)?;
+    }
+    Ok(all)
+}
+
 // What comes behind the case is faulty too, and comes later.
 #[test]
 fn places(rt: HostRuntime) -> Result<(), Fail> {
+    let alloc = rt.alloc();
     let tab = r#"{"version":1,"processes":["web","web","web"],"tabs":["#;
     let second_tab = r#"{"version":1,"processes":["web","web","web"],"tabs":[{"owner":1},"#;
     let later_tab = r#",{"owner":0,"also":[0]}],"steps":[7]}"#;
@@ -304,6 +388,14 @@ fn places(rt: HostRuntime) -> Result<(), Fail> {
         {"at":0,"do":"take"},{"do":"set","at":"parent","context":"c0.1","fields":{"Closed":true,"#;
     let own = r#"{"version":1,"processes":["web"],"steps":[
         {"do":"settle"},{"do":"set","at":0,"context":"c0.1","fields":{"Closed":true,"#;
+    let raw = r#"{"version":1,"processes":["web","web"],"steps":[{"at":0,"do":"take"},
+        {"do":"raw","parts":[{"part":"commit","context":"c0.1","fields":{"Name":""}}],"#;
+    let two = repeated(alloc, RIGHT_PART, 2)?;
+    let fifteen = repeated(alloc, RIGHT_PART, 15)?;
+    let parts = format!(in alloc;
+        "{{\"version\":1,\"processes\":[\"web\"],\"steps\":[
+        {{\"do\":\"settle\"}},{{\"do\":\"raw\",\"at\":0,\"epoch\":1,\"seen\":0,\"parts\":[{fifteen},"
+    )?;
     for (before, cases, after, place) in [
         ("", TOPS, "", 0),
         (tab, TABS, later_tab, 100_001),
@@ -314,27 +406,20 @@ fn places(rt: HostRuntime) -> Result<(), Fail> {
         (member, RIGHT_MEMBERS, "}},7]}", 3),
         (own, MEMBERS, "}},7]}", 2),
         (own, RIGHT_MEMBERS, "}},7]}", 3),
+        (raw, RAWS, "},7]}", 2),
+        (parts.as_str(), PARTS, "]},7]}", 2),
+        (parts.as_str(), RIGHT_PART, "]},7]}", 3),
+        (parts.as_str(), two.as_str(), "]},7]}", 2),
     ] {
         for text in cases.split('\n') {
             assert_eq!(rt;
-                fault(rt.alloc(), before, text, after)?,
+                fault(alloc, before, text, after)?,
                 Some(ReadFault::Shape { place }),
                 "{before}{text}"
             );
         }
     }
     Ok(())
-}
-
-fn repeated(alloc: Global, text: &str, count: usize) -> Result<String, AllocError> {
-    let mut all = String::new(alloc);
-    for i in 0..count {
-        if i > 0 {
-            all.push(',')?;
-        }
-        all.push_str(text)?;
-    }
-    Ok(all)
 }
 
 #[test]

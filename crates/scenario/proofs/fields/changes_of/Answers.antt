@@ -6,7 +6,7 @@ use Rattle.serde_json.proofs.Views.{Entry}
 use Rattle.scenario.specs.Faults.{is_memory}
 use Rattle.scenario.specs.Reading.{named_change, named_changes}
 use Rattle.scenario.proofs.Changes.{put_in, all_put, put_step, put_fails, put_end}
-use Rattle.scenario.proofs.steps.changes_of.Goals as goal
+use Rattle.scenario.proofs.fields.changes_of.Goals as goal
 
 pub loop-key-init : goal.loop-key-init
 loop-key-init c =

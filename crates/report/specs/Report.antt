@@ -1,5 +1,6 @@
 -- The report of a scenario: its lines, each a function of the journal so far.
-use Rattle.std.specs.Prelude.{ℕ, ◌+◌, ◌-◌, List, [], ◌∷◌, ◌++◌, length, Option, Some, None, codes}
+use Rattle.std.specs.Prelude.{ℕ, ◌+◌, ◌-◌, if◌then◌else◌, List, [], ◌∷◌, ◌++◌, length, Option, Some, None}
+use Rattle.std.specs.Prelude.{codes}
 use Rattle.std.specs.Fmt.{decimal}
 use Rattle.fission_ids.specs.declared.context.ContextId.{ContextId}
 use Rattle.fission_ids.specs.Ids.{context_text}
@@ -20,7 +21,8 @@ use Rattle.scenario.specs.declared.line.Show.TheVariants.{One}
 use Rattle.scenario.specs.declared.line.Line.{Line}
 use Rattle.scenario.specs.declared.line.Line.TheVariants as lines
 use Rattle.scenario.specs.declared.line.Scenario.{Scenario}
-use Rattle.model.specs.View.{view, parent_view}
+use Rattle.model.specs.Moments.{moments_of, seen_now}
+use Rattle.model.specs.View.{view, parent_view, is_honest}
 use Rattle.model.specs.Next.{Run, run_at_start, run_after, moment_after}
 use Rattle.model.specs.Settling.{settled}
 
@@ -68,10 +70,17 @@ end_text n = text_of_pieces (codes "end " ∷ decimal n ∷ codes "\n" ∷ [])
 
 -- ---- the whole
 
--- what a side shows of a field of a context
+-- what a process shows of a field of a context: its view, if it is honest, else what it wrote or was given
+-- last
+abbrev pub process_shows : Run → ℕ → ContextId → Field → Option Value
+process_shows r p x f =
+    if is_honest r.config p r.journal then view r.config p x f r.journal
+    else (seen_now r.config p (moments_of r.config r.journal)).value x f
+
+-- what a side shows of it
 abbrev pub value_shown : Run → Actor → ContextId → Field → Option Value
 value_shown r actors.Parent x f = parent_view r.config x f r.journal
-value_shown r (actors.Process p) x f = view r.config p.0 x f r.journal
+value_shown r (actors.Process p) x f = process_shows r p.0 x f
 
 -- how many entries settling adds, by the bounds of the rule functions
 abbrev pub deliveries : Bounds → Run → ℕ

@@ -1,18 +1,19 @@
 //! The lines of a report, each written by one call.
 
-ghost use Rattle.std.specs.Prelude.{◌≡◌, ℕ, List, length, string_bytes, IfOk};
+ghost use Rattle.std.specs.Prelude.{◌≡◌, ℕ, ◌<◌, List, length, string_bytes, IfOk};
 ghost use Rattle.std.specs.Option.{option_copied};
 ghost use Rattle.edge.specs.Pieces.{Writes};
 ghost use Rattle.scenario.specs.declared.line.Line.TheVariants as lines;
 ghost use Rattle.scenario.specs.Fits.{ActorFits, LineFits};
 ghost use Rattle.report.specs.Passing.{CountsFault};
-ghost use Rattle.report.specs.Report.{head_text, entry_text, settle_text, value_shown, shown_text, end_text};
+ghost use Rattle.report.specs.Report.{head_text, entry_text, settle_text, value_shown, process_shows};
+ghost use Rattle.report.specs.Report.{shown_text, end_text};
 
 use crate::fault::ReportFault;
 use crate::lines::{end_line, entry_line, head_line, settle_line, show_line};
 use edge::{Sink, write_all};
 use field_table::{Field, Value};
-use fission_ids::{ContextId, OutOfMemory};
+use fission_ids::{ContextId, OutOfMemory, ProcId};
 use journal::Entry;
 use scenario::{Actor, Show};
 use std::alloc::Global;
@@ -75,8 +76,16 @@ fn value_shown(world: &World, who: Actor, context: ContextId, field: Field) -> O
 {
     match who {
         Actor::Parent => world.parent().field(context, field),
-        Actor::Process(p) => world.content(p)?.field(context, field),
+        Actor::Process(p) => process_shows(world, p, context, field),
     }
+}
+
+// What a process shows of a field of a context.
+fn process_shows(world: &World, p: ProcId, context: ContextId, field: Field) -> Option<&Value>
+    requires { p.0 < length world.now.config.types }
+    ensures { option_copied result ≡ process_shows world.now p.0 context field }
+{
+    world.content(p)?.field(context, field)
 }
 
 /// Writes what one side shows of a field of a context. After an error a front of the line was written.

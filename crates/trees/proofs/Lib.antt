@@ -1,0 +1,11 @@
+pub mod Effects
+pub mod Joint
+pub mod Above
+pub mod Agrees
+pub mod Lists
+pub mod Siblings
+pub mod Order
+pub mod Owners
+pub mod Knowing
+pub mod Dropping
+pub mod Runs

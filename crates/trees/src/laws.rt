@@ -1,0 +1,46 @@
+ghost use Rattle.trees.specs.Laws.{QuietHoldsWhatIsLive, UntoldHoldsNothing, QuietChildrenAreTheParents};
+ghost use Rattle.trees.specs.Laws.{ChildrenHaveOneOwner, QuietOwnersAreTheParents, OwnIdsAreGood};
+ghost use Rattle.trees.specs.Laws.{DropsAreAllowed};
+ghost use Rattle.trees.specs.Runs.{WorkedRun};
+
+/// With both links empty, a process that is told of the group has exactly the contexts that are live in the
+/// parent.
+pub fn quiet_holds_what_is_live<X, W, B>()
+    ensures { QuietHoldsWhatIsLive X W B }
+{}
+
+/// A process that wasn't ended and isn't told of the group has nothing of it.
+pub fn untold_holds_nothing<X, W, B>()
+    ensures { UntoldHoldsNothing X W B }
+{}
+
+/// With both links empty, the contexts below each are those of the parent, in its order.
+pub fn quiet_children_are_the_parents<X, W, B>()
+    ensures { QuietChildrenAreTheParents X W B }
+{}
+
+/// All that is live below a context was made by who owns it.
+pub fn children_have_one_owner<X, W, B>()
+    ensures { ChildrenHaveOneOwner X W B }
+{}
+
+/// With both links empty, a process owns, of all that it has, what the parent says that it owns.
+pub fn quiet_owners_are_the_parents<X, W, B>()
+    ensures { QuietOwnersAreTheParents X W B }
+{}
+
+/// What an honest process makes was never heard of before, and what else it names was.
+pub fn own_ids_are_good<X, W, B>()
+    ensures { OwnIdsAreGood X W B }
+{}
+
+/// As a drop of what is live is heard of an honest process, the parent has that process as the owner of the
+/// context above.
+pub fn drops_are_allowed<X, W, B>()
+    ensures { DropsAreAllowed X W B }
+{}
+
+/// The worked run keeps the rules, and ends with what it is said to.
+pub fn worked_run()
+    ensures { WorkedRun }
+{}

@@ -1,0 +1,11 @@
+//! The tree of a group in one process against the parent's, proved once over what the process sees of a
+//! journal. Promised are laws over all events that keep the rules of specs/, each a clause of a function of
+//! `laws`. Nothing here knows a bundle's parts or a step, or says that anything is delivered.
+#![tactic(auto)]
+
+mod laws;
+
+pub use laws::{
+    children_have_one_owner, drops_are_allowed, own_ids_are_good, quiet_children_are_the_parents,
+    quiet_holds_what_is_live, quiet_owners_are_the_parents, untold_holds_nothing, worked_run,
+};

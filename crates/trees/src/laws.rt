@@ -19,7 +19,8 @@ pub fn quiet_children_are_the_parents<X, W, B>()
     ensures { QuietChildrenAreTheParents X W B }
 {}
 
-/// All that is live below a context was made by who owns it.
+/// Until its end, a process made what is live below a context exactly where the parent has it as the owner of
+/// that.
 pub fn children_have_one_owner<X, W, B>()
     ensures { ChildrenHaveOneOwner X W B }
 {}

@@ -19,7 +19,7 @@ use Rattle.protocol.specs.Take.{may_come}
 
 -- whether an id is greater than another: by creator, then by serial
 abbrev pub is_greater : ContextId → ContextId → Bool
-is_greater x y = nat_lt y.creator x.creator || (x.creator == y.creator && nat_lt y.serial x.serial)
+is_greater x y = nat_lt y.creator x.creator || (y.creator == x.creator && nat_lt y.serial x.serial)
 
 -- where a context goes: a top-level one before the first with a greater id, another behind all in its parent
 abbrev pub place_for : Seen → ContextId → Option ContextId → ℕ

@@ -29,7 +29,7 @@ life_below look begin l x y is (Accepts k w ∷ h) e = gone_along (look.does y w
 life_below look begin l x y is (Reverts k w c ∷ h) e = gone_along (look.tells y c) (look.tells x c) (life look begin y h) (life look begin x h) (l.tells_below x y c is) (life_below look begin l x y is h) e
 life_below look begin l x y is (_ ∷ h) e = life_below look begin l x y is h e
 
-starts_alive : {X W B : Type 0} (look : Look X W B) (begin : Begin X) → Lawful look begin → (y : X) → begin.stage y ≡ Gone → ⊥
+pub starts_alive : {X W B : Type 0} (look : Look X W B) (begin : Begin X) → Lawful look begin → (y : X) → begin.stage y ≡ Gone → ⊥
 starts_alive look begin l y e = go begin.is_told refl
   where
     go : (b : Bool) → begin.is_told ≡ b → ⊥

@@ -73,7 +73,7 @@ above_done look begin l e w x y h done is behind before live = go (live_before (
     go (inl was) = behind ∙ still_live (look.does x w) (look.does y w) (life look begin x h) (life look begin y h) (l.does_below x y w is) (before was) live
     go (inr comes) = done.below_live comes y is
 
-above_live : {X W B : Type 0} (look : Look X W B) (begin : Begin X) → Lawful look begin → (x y : X) → look.above x ≡ Some y → (h : List (Event W B)) → Fits look begin h → is_ended h ≡ false →
+pub above_live : {X W B : Type 0} (look : Look X W B) (begin : Begin X) → Lawful look begin → (x y : X) → look.above x ≡ Some y → (h : List (Event W B)) → Fits look begin h → is_ended h ≡ false →
     life look begin x h ≡ Held → life look begin y h ≡ Held
 above_live look begin l x y is [] t runs live = let new : begin.life x ≡ Coming = l.none_below x y is in absurd cc
 above_live look begin l x y is (Sends k u c ∷ h) t runs live = above_done look begin l (Sends k u c) u x y h (t.0 runs x).done.done is refl (above_live look begin l x y is h t.1 runs) live
@@ -86,7 +86,7 @@ above_live look begin l x y is (Ends ∷ h) t runs live = absurd cc
 above_live look begin l x y is (_ ∷ h) t runs live = above_live look begin l x y is h t.1 runs live
 
 -- what is sent as coming is live
-sent_live : (told_before registers : Bool) (did told : Effect) (l : Stage) → Told told_before registers did told l → (did ≡ Comes → l ≡ Coming) → told ≡ Comes → moved did l ≡ Held
+pub sent_live : (told_before registers : Bool) (did told : Effect) (l : Stage) → Told told_before registers did told l → (did ≡ Comes → l ≡ Coming) → told ≡ Comes → moved did l ≡ Held
 sent_live true registers did told l t new comes = by_coming did l (sym t ∙ comes) new
   where
     by_coming : (a : Effect) (s : Stage) → a ≡ Comes → (a ≡ Comes → s ≡ Coming) → moved a s ≡ Held
@@ -96,7 +96,7 @@ sent_live true registers did told l t new comes = by_coming did l (sym t ∙ com
 sent_live false true did told l t new comes = whole_live (moved did l) (sym t ∙ comes)
 sent_live false false did told l t new comes = absurd cc
 
-none_sent : {X W B : Type 0} (look : Look X W B) (begin : Begin X) → Lawful look begin → (x y : X) → look.above x ≡ Some y → look.is_own y ≡ true → (h : List (Event W B)) → Flows h → Fits look begin h → is_ended h ≡ false →
+pub none_sent : {X W B : Type 0} (look : Look X W B) (begin : Begin X) → Lawful look begin → (x y : X) → look.above x ≡ Some y → look.is_own y ≡ true → (h : List (Event W B)) → Flows h → Fits look begin h → is_ended h ≡ false →
     stage look begin y h ≡ Coming → AllByRecursion (λ d. look.tells x d.content ≡ Comes → ⊥) (bundles_sent h)
 none_sent look begin l x y is own [] f t runs new = tt
 none_sent look begin l x y is own (Writes w ∷ h) f t runs new = none_sent look begin l x y is own h f.1 t.1 runs (new_before (look.does y w) (stage look begin y h) new)

@@ -86,7 +86,7 @@ first_did does w h s f d = go (subst (λ ws. AllDid does ws s) f.is (did_drop do
     go : AllDid does (w ∷ f.rest) s → moved (does w) s ≡ s
     go (is, rest) = is
 
-told_nothing : (registers told_before : Bool) (did told : Effect) (l : Stage) → (registers || told_before) ≡ false → Told told_before registers did told l → told ≡ Stays
+pub told_nothing : (registers told_before : Bool) (did told : Effect) (l : Stage) → (registers || told_before) ≡ false → Told told_before registers did told l → told ≡ Stays
 told_nothing true b did told l e t = absurd cc
 told_nothing false true did told l e t = absurd cc
 told_nothing false false did told l e t = t

@@ -9,3 +9,4 @@ pub mod Owners
 pub mod Knowing
 pub mod Dropping
 pub mod Runs
+pub mod Taking

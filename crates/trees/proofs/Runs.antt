@@ -51,10 +51,25 @@ alive Other e = absurd cc
 same_start : (x : Context) → begin.stage x ≡ begin.life x
 same_start x = refl
 
+created_moves : (x : Context) (w : Change) → look.creates x w ≡ true → look.does x w ≡ Stays → ⊥
+created_moves Frame MakesFrame c e = absurd cc
+created_moves Other MakesOther c e = absurd cc
+created_moves Tab MakesFrame c e = absurd cc
+created_moves Tab RemovesFrame c e = absurd cc
+created_moves Tab HandsTabOver c e = absurd cc
+created_moves Tab MakesOther c e = absurd cc
+created_moves Frame RemovesFrame c e = absurd cc
+created_moves Frame HandsTabOver c e = absurd cc
+created_moves Frame MakesOther c e = absurd cc
+created_moves Other MakesFrame c e = absurd cc
+created_moves Other RemovesFrame c e = absurd cc
+created_moves Other HandsTabOver c e = absurd cc
+
 lawful : Lawful look begin
 lawful = record {
   does_below = stays_above;
   tells_below = stays_above;
+  creates_moves = created_moves;
   has_live = λ e. same_start;
   has_nothing = λ e x. absurd cc;
   none_gone = alive;
@@ -63,13 +78,13 @@ lawful = record {
 }
 
 wrote : (x : Context) → Wrote look begin MakesFrame x []
-wrote Tab = record { acts = tt; children = (record { below = refl; own = refl; comes = refl }, tt); hands = refl; creates = refl; needs = λ e. refl; drops = λ e. absurd cc; drops_below = λ e y is. absurd cc }
-wrote Frame = record { acts = record { told = refl; own = refl; new = refl; below = (Tab, refl, refl) }; children = tt; hands = refl; creates = refl; needs = λ e. absurd cc; drops = λ e. absurd cc; drops_below = λ e y is. absurd cc }
-wrote Other = record { acts = tt; children = tt; hands = refl; creates = refl; needs = λ e. absurd cc; drops = λ e. absurd cc; drops_below = λ e y is. absurd cc }
+wrote Tab = record { acts = tt; children = (record { below = refl; own = refl; comes = refl }, tt); hands = refl; creates = refl; needs = λ e. refl; drops = λ e. absurd cc; drops_below = λ e y is. absurd cc; goes = λ e. absurd cc }
+wrote Frame = record { acts = record { told = refl; own = refl; new = refl; below = (Tab, refl, refl) }; children = tt; hands = refl; creates = refl; needs = λ e. absurd cc; drops = λ e. absurd cc; drops_below = λ e y is. absurd cc; goes = λ e. absurd cc }
+wrote Other = record { acts = tt; children = tt; hands = refl; creates = refl; needs = λ e. absurd cc; drops = λ e. absurd cc; drops_below = λ e y is. absurd cc; goes = λ e. absurd cc }
 
 -- the tab is handed over; the frame isn't known yet
 stays_done : (e : Event Change Change) (u : Change) (x : Context) (h : List (Event Change Change)) → look.does x u ≡ Stays →
-    ((y : Context) → look.above x ≡ Some y → (look.hands y u ≡ Same) ⊎ (life look begin x (e ∷ h) ≡ Held → ⊥)) → AllByRecursion (OtherChild look x) (look.makes x u) → look.creates x u ≡ false → DoneByOthers look begin e u x h
+    ((y : Context) → look.above x ≡ Some y → (look.hands y u ≡ Same) ⊎ (life look begin x h ≡ Held → life look begin x (e ∷ h) ≡ Held → ⊥)) → AllByRecursion (OtherChild look x) (look.makes x u) → look.creates x u ≡ false → DoneByOthers look begin e u x h
 stays_done e u x h stays cleared children other = record {
   done = record { new = λ is. absurd cc; with_above = λ is own new. absurd cc; below_live = λ is y above. absurd cc; by_owner = λ is y above. absurd cc; cleared = cleared };
   by_others = λ is. absurd cc;
@@ -89,7 +104,7 @@ handed_over Tab = record {
   only_live = inr refl;
 }
 handed_over Frame = record {
-  done = stays_done (Sends 1 HandsTabOver HandsTabOver) HandsTabOver Frame (Writes MakesFrame ∷ []) refl (λ y is. inr (λ e. absurd cc)) tt refl;
+  done = stays_done (Sends 1 HandsTabOver HandsTabOver) HandsTabOver Frame (Writes MakesFrame ∷ []) refl (λ y is. inr (λ was e. absurd cc)) tt refl;
   told = refl;
   brought = refl;
   others = tt;
@@ -97,7 +112,7 @@ handed_over Frame = record {
   only_live = inl refl;
 }
 handed_over Other = record {
-  done = stays_done (Sends 1 HandsTabOver HandsTabOver) HandsTabOver Other (Writes MakesFrame ∷ []) refl (λ y is. inr (λ e. absurd cc)) tt refl;
+  done = stays_done (Sends 1 HandsTabOver HandsTabOver) HandsTabOver Other (Writes MakesFrame ∷ []) refl (λ y is. inr (λ was e. absurd cc)) tt refl;
   told = refl;
   brought = refl;
   others = tt;

@@ -24,10 +24,10 @@ done_by_owner : {X W B : Type 0} (look : Look X W B) (begin : Begin X) (e : Even
     look.is_own x ≡ owned look begin y (e ∷ h)
 done_by_owner look begin e w x y h done is behind before live now = go (live_before (look.does x w) (life look begin x h) live) (done.cleared y is)
   where
-    go : (life look begin x h ≡ Held) ⊎ (look.does x w ≡ Comes) → (look.hands y w ≡ Same) ⊎ (life look begin x (e ∷ h) ≡ Held → ⊥) → look.is_own x ≡ owned look begin y (e ∷ h)
+    go : (life look begin x h ≡ Held) ⊎ (look.does x w ≡ Comes) → (look.hands y w ≡ Same) ⊎ (life look begin x h ≡ Held → life look begin x (e ∷ h) ≡ Held → ⊥) → look.is_own x ≡ owned look begin y (e ∷ h)
     go (inr comes) c = done.by_owner comes y is
     go (inl was) (inl same) = before was ∙ sym (behind ∙ ap (λ a. owned_behind a (owned look begin y h)) same)
-    go (inl was) (inr cleared) = absurd (cleared now)
+    go (inl was) (inr cleared) = absurd (cleared was now)
 
 pub one_owner : {X W B : Type 0} (look : Look X W B) (begin : Begin X) → Lawful look begin → (x y : X) → look.above x ≡ Some y → (h : List (Event W B)) → Fits look begin h → is_ended h ≡ false →
     life look begin x h ≡ Held → look.is_own x ≡ owned look begin y h

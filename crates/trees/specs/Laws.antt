@@ -1,10 +1,11 @@
 -- The laws, each for all events that keep the rules.
 use Rattle.std.specs.Prelude.{◌≡◌, true, false, Some, List, []}
-use Rattle.traces.specs.Event.{Event}
+use Rattle.traces.specs.Event.{Bundle, Event}
 use Rattle.traces.specs.Links.{writes_waiting, bundles_waiting, is_ended}
 use Rattle.traces.specs.Rules.{IsFirst}
-use Rattle.traces.specs.Words.Stage.{Coming, Held}
-use Rattle.trees.specs.Look.{Look, Begin}
+use Rattle.traces.specs.Words.Stage.{Coming, Held, Gone}
+use Rattle.trees.specs.Look.{moved, Look, Begin}
+use Rattle.trees.specs.Look.Effect.{Comes}
 use Rattle.trees.specs.Words.{is_told, stage, life, is_held, is_known}
 use Rattle.trees.specs.Children.{held_below, live_below, owned, owns}
 use Rattle.trees.specs.Rules.{Keeps}
@@ -54,3 +55,19 @@ DropsAreAllowed X W B = (look : Look X W B) (begin : Begin X) (w : W) (h : List 
     Keeps look begin h → is_ended h ≡ false → IsFirst w (writes_waiting h) →
     (x y : X) → look.drops x w ≡ true → look.above x ≡ Some y → life look begin x h ≡ Held →
     owned look begin y h ≡ true
+
+-- as a bundle is taken that brings a context of another, the process doesn't have that: if it didn't drop it, it
+-- has the context above then, and if it dropped it, it hasn't
+abbrev pub ComingsAreBelowTheHeld : Type 0 → Type 0 → Type 0 → Type 0
+ComingsAreBelowTheHeld X W B = (look : Look X W B) (begin : Begin X) (d : Bundle B) (h : List (Event W B)) →
+    Keeps look begin h → is_ended h ≡ false → IsFirst d (bundles_waiting h) →
+    (x y : X) → look.is_own x ≡ false → look.above x ≡ Some y → look.tells x d.content ≡ Comes →
+    (stage look begin x h ≡ Held → ⊥)
+    × (stage look begin x h ≡ Coming → moved (look.tells y d.content) (stage look begin y h) ≡ Held)
+    × (stage look begin x h ≡ Gone → moved (look.tells y d.content) (stage look begin y h) ≡ Held → ⊥)
+
+-- what the parent has heard of as made in time, or as made by the process, is live or was
+abbrev pub KnownHasCome : Type 0 → Type 0 → Type 0 → Type 0
+KnownHasCome X W B = (look : Look X W B) (begin : Begin X) (h : List (Event W B)) →
+    Keeps look begin h → is_ended h ≡ false → (x : X) →
+    is_known look begin x h ≡ true → life look begin x h ≡ Coming → ⊥

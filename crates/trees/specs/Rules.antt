@@ -14,12 +14,13 @@ use Rattle.trees.specs.Look.Handing.{Same, Given, Taken}
 use Rattle.trees.specs.Words.{is_told, stage, life}
 use Rattle.trees.specs.Children.{attached, is_alive, owned, owns}
 
--- what goes takes along all that is below it, made or not; at the start nothing was discarded, there is
--- nothing below anything and nothing that the process made, and it has all that is live or, where it isn't
--- told of the group, nothing
+-- what goes takes along all that is below it, made or not, and what is named as made comes or goes; at the
+-- start nothing was discarded, there is nothing below anything and nothing that the process made, and it has
+-- all that is live or, where it isn't told of the group, nothing
 pub record Lawful {X W B : Type 0} (look : Look X W B) (begin : Begin X) : Type 0 where
   pub does_below : (x y : X) (w : W) → look.above x ≡ Some y → look.does y w ≡ Goes → look.does x w ≡ Goes
   pub tells_below : (x y : X) (c : B) → look.above x ≡ Some y → look.tells y c ≡ Goes → look.tells x c ≡ Goes
+  pub creates_moves : (x : X) (w : W) → look.creates x w ≡ true → look.does x w ≡ Stays → ⊥
   pub has_live : begin.is_told ≡ true → (x : X) → begin.stage x ≡ begin.life x
   pub has_nothing : begin.is_told ≡ false → (x : X) → begin.stage x ≡ Coming
   pub none_gone : (x : X) → begin.life x ≡ Gone → ⊥
@@ -61,7 +62,7 @@ abbrev pub HandsOver : Effect → Handing → Type 0
 HandsOver Comes hand = hand ≡ Given
 HandsOver _ hand = hand ≡ Same
 
--- it names what it makes, and else what it has, and drops what is below a context that it owns
+-- it names what it makes, and else what it has, and drops what is below a context that it owns, with all below
 pub record Wrote {X W B : Type 0} (look : Look X W B) (begin : Begin X) (w : W) (x : X)
     (h : List (Event W B)) : Type 0 where
   pub acts : Acts look begin x h (look.does x w)
@@ -71,6 +72,7 @@ pub record Wrote {X W B : Type 0} (look : Look X W B) (begin : Begin X) (w : W) 
   pub needs : look.needs x w ≡ true → stage look begin x h ≡ Held
   pub drops : look.drops x w ≡ true → stage look begin x h ≡ Held
   pub drops_below : look.drops x w ≡ true → (y : X) → look.above x ≡ Some y → owns look begin y h ≡ true
+  pub goes : look.does x w ≡ Goes → (look.drops x w ≡ true) ⊎ Above look x (λ y. look.does y w ≡ Goes)
 
 -- ---- what the parent does
 
@@ -86,7 +88,7 @@ pub record Done {X W B : Type 0} (look : Look X W B) (begin : Begin X) (e : Even
   pub by_owner : look.does x w ≡ Comes → (y : X) → look.above x ≡ Some y →
       look.is_own x ≡ owned look begin y (e ∷ h)
   pub cleared : (y : X) → look.above x ≡ Some y →
-      (look.hands y w ≡ Same) ⊎ (life look begin x (e ∷ h) ≡ Held → ⊥)
+      (look.hands y w ≡ Same) ⊎ (life look begin x h ≡ Held → life look begin x (e ∷ h) ≡ Held → ⊥)
 
 -- x is below y, and another made it
 pub record OtherChild {X W B : Type 0} (look : Look X W B) (y x : X) : Type 0 where

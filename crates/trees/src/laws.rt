@@ -1,6 +1,6 @@
 ghost use Rattle.trees.specs.Laws.{QuietHoldsWhatIsLive, UntoldHoldsNothing, QuietChildrenAreTheParents};
 ghost use Rattle.trees.specs.Laws.{ChildrenHaveOneOwner, QuietOwnersAreTheParents, OwnIdsAreGood};
-ghost use Rattle.trees.specs.Laws.{DropsAreAllowed};
+ghost use Rattle.trees.specs.Laws.{DropsAreAllowed, ComingsAreBelowTheHeld, KnownHasCome};
 ghost use Rattle.trees.specs.Runs.{WorkedRun};
 
 /// With both links empty, a process that is told of the group has exactly the contexts that are live in the
@@ -39,6 +39,17 @@ pub fn own_ids_are_good<X, W, B>()
 /// context above.
 pub fn drops_are_allowed<X, W, B>()
     ensures { DropsAreAllowed X W B }
+{}
+
+/// As a bundle is taken that brings another's context, the process doesn't have that: if it didn't drop it, it
+/// has the context above then, and if it dropped it, it hasn't.
+pub fn comings_are_below_the_held<X, W, B>()
+    ensures { ComingsAreBelowTheHeld X W B }
+{}
+
+/// What the parent has heard of, as made in time or as made by the process, is live or was.
+pub fn known_has_come<X, W, B>()
+    ensures { KnownHasCome X W B }
 {}
 
 /// The worked run keeps the rules, and ends with what it is said to.

@@ -6,6 +6,7 @@
 mod laws;
 
 pub use laws::{
-    children_have_one_owner, drops_are_allowed, own_ids_are_good, quiet_children_are_the_parents,
-    quiet_holds_what_is_live, quiet_owners_are_the_parents, untold_holds_nothing, worked_run,
+    children_have_one_owner, comings_are_below_the_held, drops_are_allowed, known_has_come,
+    own_ids_are_good, quiet_children_are_the_parents, quiet_holds_what_is_live,
+    quiet_owners_are_the_parents, untold_holds_nothing, worked_run,
 };

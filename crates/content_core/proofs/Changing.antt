@@ -1,5 +1,5 @@
 -- What a process keeps of each context, where one of them is changed.
-use Rattle.std.proofs.Common.{◌≡◌, ◌∙◌, refl, sym, ap, ap₂, subst, ℕ, suc, Bool, true, false, cond, if◌then◌else◌, List, [], ◌∷◌, length, Option, None, Some, unwrap_or, true≢false}
+use Rattle.std.proofs.Common.{◌≡◌, ◌∙◌, refl, sym, ap, subst, ℕ, suc, Bool, true, false, cond, if◌then◌else◌, [], ◌∷◌, length, Option, None, Some, unwrap_or, true≢false}
 use Rattle.std.specs.Prelude.{is_some, IfSome}
 use Rattle.std.specs.FinMap.{get}
 use Rattle.std.specs.Option.{option_map}
@@ -14,10 +14,9 @@ use Rattle.fission_ids.specs.declared.epoch.Epoch.{Epoch}
 use Rattle.transaction.specs.Transaction.{Changes, table_after, modified_in, changes_in}
 use Rattle.context_store.specs.Content.{Content, Stored, is_there, content_after_change, stored_after_commit, stored_after_overlay, obsolete_fields}
 use Rattle.context_store.proofs.Contexts.{same_context-tied, tied_same, get-changed_at}
-use Rattle.wire_msgs.specs.declared.config.StartTab.{StartTab}
 use Rattle.protocol.specs.Fold.{or_later}
-use Rattle.protocol.specs.Start.{is_held_at_start}
-use Rattle.content_core.specs.Content.{Kept, HoldsItsTabs}
+use Rattle.content_core.specs.declared.contexts.Contexts.{Contexts}
+use Rattle.content_core.proofs.Coming.{AreWhole}
 
 -- the change of one context, as a change of all
 abbrev pub changed : (Stored → Stored) → ContextId → ContextId → Stored → Stored
@@ -66,19 +65,24 @@ still_long f keeps b None is = is
 still_long f keeps true (Some s) is = keeps s ∙ is
 still_long f keeps false (Some s) is = is
 
--- a change of one context leaves what a process holds
-pub HoldsItsTabs-changed : (f : Stored → Stored) (x : ContextId) (before after : Kept) → KeepsLength f → after.process ≡ before.process → after.tabs ≡ before.tabs
-    → after.contexts ≡ content_after_change f x before.contexts → HoldsItsTabs before → HoldsItsTabs after
-HoldsItsTabs-changed f x before after keeps process tabs contexts holds =
-    let at : (y : ContextId) → get after.contexts y ≡ option_map (changed f x y) (get before.contexts y) =
-    λ y. ap (λ (m : Content). get m y) contexts ∙ get-changed f x before.contexts y in
+-- the contexts with another store
+abbrev pub with_store : Content → Contexts → Contexts
+with_store m held = record { tree = held.tree; store = m; holds = held.holds }
+
+-- a change of one context leaves them whole
+pub whole-changed : (f : Stored → Stored) (x : ContextId) (p n : ℕ) (old : Contexts) (m : Content) → KeepsLength f → m ≡ content_after_change f x old.store
+    → AreWhole p old n → AreWhole p (with_store m old) n
+whole-changed f x p n old m keeps change whole =
+    let at : (y : ContextId) → get m y ≡ option_map (changed f x y) (get old.store y) =
+    λ y. ap (λ (c : Content). get c y) change ∙ get-changed f x old.store y in
     record {
-      held = λ y.
-          ap is_some (at y)
-          ∙ still_there (changed f x y) (get before.contexts y)
-          ∙ holds.held y
-          ∙ sym (ap₂ (λ (ts : List StartTab) (p : ℕ). is_held_at_start ts p y) tabs process);
-      long = λ y. subst (λ (o : Option Stored). IfSome o (λ s. length s.fields ≡ length fields)) (sym (at y)) (still_long f keeps (same_context y x) (get before.contexts y) (holds.long y));
+      tree = whole.tree;
+      there = λ y. ap is_some (at y) ∙ still_there (changed f x y) (get old.store y) ∙ whole.there y;
+      known = whole.known;
+      long = λ y. subst (λ (o : Option Stored). IfSome o (λ s. length s.fields ≡ length fields)) (sym (at y)) (still_long f keeps (same_context y x) (get old.store y) (whole.long y));
+      own = whole.own;
+      few = whole.few;
+      number = whole.number;
     }
 
 -- ---- what is shown of a field, where the change of a context writes it or leaves it

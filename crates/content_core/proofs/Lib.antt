@@ -1,7 +1,13 @@
 pub mod Acting
 pub mod Changing
+pub mod Coming
 pub mod Denied
+pub mod Doings
+pub mod Folding
+pub mod Going
+pub mod Nodes
 pub mod Notes
-pub mod Started
+pub mod TabBits
+pub mod Tabs
 pub mod Taken
 pub mod Written

@@ -1,6 +1,5 @@
--- What a process answers behind its own write.
-use Rattle.std.proofs.Common.{◌≡◌, ◌∙◌, refl, sym, ap, ap₂, ℕ, ◌+◌, Bool, true, false, ◌&&◌, if◌then◌else◌, List, [], ◌∷◌, subst, Option, None, Some, true≢false}
-use Rattle.std.proofs.Math.Path.{fun_ext}
+-- What a process keeps and answers behind its own write.
+use Rattle.std.proofs.Common.{◌≡◌, ◌∙◌, refl, sym, ap, ℕ, ◌+◌, Bool, true, false, ◌&&◌, if◌then◌else◌, Option, None, Some, true≢false}
 use Rattle.std.specs.Prelude.{is_some}
 use Rattle.std.specs.FinMap.{get}
 use Rattle.std.specs.Option.{option_map, option_map_or}
@@ -8,7 +7,6 @@ use Rattle.fission_ids.specs.declared.context.ContextId.{ContextId}
 use Rattle.fission_ids.specs.declared.epoch.Epoch.{Epoch}
 use Rattle.fission_ids.specs.Ids.{same_context}
 use Rattle.field_table.specs.declared.field.Field.{Field}
-use Rattle.field_table.specs.declared.value.Value.{Value}
 use Rattle.field_table.specs.FieldSet.{has}
 use Rattle.field_table.specs.Table.{value_in}
 use Rattle.field_table.proofs.Tables.{at_number}
@@ -17,18 +15,14 @@ use Rattle.transaction.specs.Transaction.{Changes, new_value, modified_in}
 use Rattle.transaction.proofs.Merging.{value_in-merged}
 use Rattle.epochs.specs.FieldEpochs.{Epochs, epoch_of, epochs_after}
 use Rattle.context_store.specs.Content.{Content, Stored, is_there, content_after_change, stored_after_commit}
-use Rattle.wire_msgs.specs.declared.config.StartTab.{StartTab}
-use Rattle.wire_msgs.specs.declared.answer.Answer.TheVariants.{Done}
-use Rattle.wire_msgs.specs.declared.part.UpPart.{UpPart}
-use Rattle.wire_msgs.specs.declared.part.UpPart.TheVariants as ups
-use Rattle.protocol.specs.Seen.{Seen}
 use Rattle.protocol.specs.Seen.Doing.{Wrote}
 use Rattle.protocol.specs.SeenAfter.{seen_after}
-use Rattle.protocol.specs.Start.{is_held_at_start}
-use Rattle.content_core.specs.Content.{Kept, HoldsItsTabs, seen_of}
-use Rattle.content_core.specs.Moved.{MovedBy}
-use Rattle.content_core.specs.Steps.{written_step}
-use Rattle.content_core.proofs.Changing.{get-changed, value-changed, there_too, long_at}
+use Rattle.context_tree.specs.Tree.{is_held}
+use Rattle.content_core.specs.Content.{Kept, seen_of}
+use Rattle.content_core.specs.Held.{Does}
+use Rattle.content_core.specs.declared.contexts.Contexts.{Contexts}
+use Rattle.content_core.proofs.Changing.{get-changed, value-changed, there_too, long_at, with_store, whole-changed, KeepsLength-commit}
+use Rattle.content_core.proofs.Coming.{keeps, AreWhole}
 
 pick : (b : Bool) (e old : Epoch) → (if b then e else old).0 ≡ (if b then e.0 else old.0)
 pick true e old = refl
@@ -52,43 +46,38 @@ newest-written t e n fld is false None there = refl
 newest-written t e n fld is true (Some s) there = marked t e s.epochs fld ∙ ap (λ (k : ℕ). if is_some (new_value t fld) then k else (epoch_of s.epochs fld).0) is
 newest-written t e n fld is false (Some s) there = refl
 
--- the answers behind a commit are those behind the write
-module _ (p : ℕ) (tabs : List StartTab) (m new : Content) (n count j : ℕ) (running : Bool) (x : ContextId) (t : Changes) (e : Epoch) where
+-- a commit is the write that the rule says
+module _ (p : ℕ) (old : Contexts) (m : Content) (n commits more taken : ℕ) (running : Bool) (x : ContextId) (t : Changes) where
+  abbrev e : Epoch
+  e = record { 0 = commits + 1 }
+
   abbrev before : Kept
-  before = record { process = p; tabs = tabs; contexts = m; commits = n; taken = j; running = running }
+  before = keeps p old commits taken n running
 
   abbrev after : Kept
-  after = record { process = p; tabs = tabs; contexts = new; commits = count; taken = j; running = running }
+  after = keeps p (with_store m old) more taken n running
 
-  abbrev made : ℕ → (ContextId → Field → Option Value) → (ContextId → Field → ℕ) → Seen
-  made k value newest = record (seen_of before) { commits = k; value = value; newest = newest }
-
-  pub seen-written : new ≡ content_after_change (stored_after_commit t (Some e)) x m → count ≡ n + 1 → e.0 ≡ n + 1 → HoldsItsTabs before → is_held_at_start tabs p x ≡ true
+  seen-written : m ≡ content_after_change (stored_after_commit t (Some e)) x old.store → more ≡ commits + 1 → AreWhole p old n → is_held x old.tree ≡ true
       → seen_of after ≡ seen_after p (Wrote x t) (seen_of before)
   unfolding seen_after
-  seen-written change more next holds held =
-      let there : is_there x m ≡ true = holds.held x ∙ held in
-      let at : (y : ContextId) → get new y ≡ option_map (λ s. if same_context y x then stored_after_commit t (Some e) s else s) (get m y) =
-      λ y. ap (λ (c : Content). get c y) change ∙ get-changed (stored_after_commit t (Some e)) x m y in
-      ap (λ (k : ℕ). made k (seen_of after).value (seen_of after).newest) more
-      ∙ ap₂ (made (n + 1))
-      (fun_ext (λ y. fun_ext (λ fld.
-      ap (option_map (λ (s : Stored). value_in s.fields fld)) (at y)
-      ∙ value-changed (stored_after_commit t (Some e)) fld (new_value t fld) (same_context y x) (get m y) (there_too x y m there)
-      (λ s same is. value_in-merged t s.fields _ fld refl (long_at (get m y) s (holds.long y) is)))))
-      (fun_ext (λ y. fun_ext (λ fld. ap (newest_in fld) (at y) ∙ newest-written t e (n + 1) fld next (same_context y x) (get m y) (there_too x y m there))))
+  seen-written change counts whole held =
+      let there : is_there x old.store ≡ true = whole.there x ∙ held in
+      let at : (y : ContextId) → get m y ≡ option_map (λ s. if same_context y x then stored_after_commit t (Some e) s else s) (get old.store y) =
+      λ y. ap (λ (c : Content). get c y) change ∙ get-changed (stored_after_commit t (Some e)) x old.store y in
+      λ j. record (seen_of before) {
+        commits = counts j;
+        value = λ y fld.
+            (ap (option_map (λ (s : Stored). value_in s.fields fld)) (at y)
+            ∙ value-changed (stored_after_commit t (Some e)) fld (new_value t fld) (same_context y x) (get old.store y) (there_too x y old.store there)
+            (λ s same is. value_in-merged t s.fields _ fld refl (long_at (get old.store y) s (whole.long y) is))) j;
+        newest = λ y fld. (ap (newest_in fld) (at y) ∙ newest-written t e (commits + 1) fld refl (same_context y x) (get old.store y) (there_too x y old.store there)) j;
+      }
 
-  -- a write moves the process as the rule says
-  pub moved-written : (k : Kept) (parts : List UpPart) → before ≡ k → new ≡ content_after_change (stored_after_commit t (Some e)) x m → count ≡ n + 1 → e.0 ≡ n + 1 → HoldsItsTabs before
-      → (seen_of k).holds x ≡ true → parts ≡ ups.Commit x t ∷ []
-      → MovedBy k (written_step k.process x t (seen_of k)) (record { core = after; answer = Done; sent = Some (record { epoch = e; seen = j; parts = parts }) })
-  unfolding seen_after
-  moved-written k parts is change more next holds held sent =
-      let core : Kept = after in
-      subst (λ (q : Kept). MovedBy q (written_step q.process x t (seen_of q)) (record { core = core; answer = Done; sent = Some (record { epoch = e; seen = j; parts = parts }) })) is (record {
-        process = refl;
-        tabs = refl;
-        seen = seen-written change more next holds (ap (λ (q : Kept). (seen_of q).holds x) is ∙ held);
-        answer = refl;
-        sent = ap₂ (λ (k : ℕ) (ps : List UpPart). Some (record { epoch = record { 0 = k }; seen = j; parts = ps })) next sent;
-      })
+  pub does-wrote : m ≡ content_after_change (stored_after_commit t (Some e)) x old.store → more ≡ commits + 1 → AreWhole p old n → is_held x old.tree ≡ true
+      → Does (Wrote x t) before after
+  does-wrote change counts whole held = record {
+    process = refl;
+    taken = refl;
+    seen = seen-written change counts whole held;
+    whole = whole-changed (stored_after_commit t (Some e)) x p n old m (KeepsLength-commit t (Some e)) change whole;
+  }

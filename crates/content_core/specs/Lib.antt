@@ -1,3 +1,4 @@
 pub mod Content
+pub mod Held
 pub mod Moved
 pub mod Steps

@@ -13,4 +13,5 @@ pub mod SeenAfter
 pub mod Start
 pub mod Outside
 pub mod Commits
+pub mod Played
 pub mod Rows

@@ -1,9 +1,0 @@
-use Rattle.std.proofs.Common.{◌≡◌, take}
-use Rattle.content_core.specs.Steps.{HoldsFrom}
-use Rattle.content_core.proofs.content.contexts_at_start.Given as goal
-
-abbrev pub invariant-loop-tab : goal.invariant-loop-tab
-invariant-loop-tab l = record {
-  serial : l.serial ≡ l.tab-index;
-  holds : HoldsFrom (take l.tab-index l.tabs) l.p.0 l.contexts;
-}

@@ -32,17 +32,17 @@ is_serial n serial = if nat_lt 0 serial then nat_lt (serial - 1) n else false
 abbrev pub is_among : ℕ → ContextId → Bool
 is_among n x = x.creator == 0 && is_serial n x.serial
 
-serial_in : (n s : ℕ) → 0 < s → s - 1 < n → is_serial n s ≡ true
+pub serial_in : (n s : ℕ) → 0 < s → s - 1 < n → is_serial n s ≡ true
 serial_in n s from below = ap (λ b. if b then nat_lt (s - 1) n else false) (lt-ltb 0 s from) ∙ lt-ltb (s - 1) n below
 
-serial_out : (n s : ℕ) → n ≤ s - 1 → is_serial n s ≡ false
+pub serial_out : (n s : ℕ) → n ≤ s - 1 → is_serial n s ≡ false
 serial_out n s past = by (nat_lt 0 s)
   where
     by : (b : Bool) → (if b then nat_lt (s - 1) n else false) ≡ false
     by true = le-ltb (s - 1) n past
     by false = refl
 
-serial_more : (n s : ℕ) → s ≢ n + 1 → is_serial n s ≡ is_serial (n + 1) s
+pub serial_more : (n s : ℕ) → s ≢ n + 1 → is_serial n s ≡ is_serial (n + 1) s
 serial_more n s ne = by (nat_lt 0 s) refl
   where
     by : (b : Bool) → nat_lt 0 s ≡ b → (if b then nat_lt (s - 1) n else false) ≡ (if b then nat_lt (s - 1) (n + 1) else false)
@@ -53,7 +53,7 @@ serial_more n s ne = by (nat_lt 0 s) refl
         below_more (s - 1) n other ∙ ap (nat_lt (s - 1)) one
     by false e = refl
 
-serial_next : {X : Type 0} (n s : ℕ) (v : X) → cond (s == n + 1) (Some v) (some_if (is_serial n s) v) ≡ some_if (is_serial (n + 1) s) v
+pub serial_next : {X : Type 0} (n s : ℕ) (v : X) → cond (s == n + 1) (Some v) (some_if (is_serial n s) v) ≡ some_if (is_serial (n + 1) s) v
 serial_next n s v = elim (cases_eq s (n + 1)) [
   | inl e ↦
       let from : 0 < s = omega arith in

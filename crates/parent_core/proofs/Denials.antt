@@ -8,7 +8,6 @@ use Rattle.std.proofs.lemmas.List.Folds.{list_any_at}
 use Rattle.std.proofs.lemmas.Map.Views.{any-filter_same}
 use Rattle.std.proofs.lemmas.Nat.Bits.{bit_at-zero}
 use Rattle.fission_ids.specs.declared.context.ContextId.{ContextId}
-use Rattle.fission_ids.specs.ProcSet.{has as has_process}
 use Rattle.field_table.specs.declared.field.Field.{Field}
 use Rattle.field_table.specs.declared.field.Field.TheVariants.{Name}
 use Rattle.field_table.specs.declared.field_set.FieldSet.{FieldSet}
@@ -21,10 +20,6 @@ use Rattle.wire_msgs.specs.declared.cause.EndCause.TheVariants.{Denied as Denied
 use Rattle.wire_msgs.specs.declared.refusal.Refusal.TheVariants.{Denied}
 use Rattle.protocol.specs.Hear.{denial, same_field, set_of_fields, modified_fields}
 use Rattle.protocol.specs.ParentActs.{denial_refused}
-
--- the set without a process
-pub none_in_set : (q : ℕ) → has_process (record { 0 = 0 }) q ≡ false
-none_in_set q = ap (λ (n : ℕ). n == 1) (bit_at-zero q)
 
 -- the set without a field
 abbrev pub no_field : FieldSet

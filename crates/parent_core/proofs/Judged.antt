@@ -1,6 +1,6 @@
 -- How the fields of a commit are judged: by the set of those that are reverted, and by the notes.
-use Rattle.std.proofs.Common.{◌≡◌, ℕ, Bool, true, false, ◌&&◌, if◌then◌else◌, Option, None, Some, map, refl, sym, ap, ◌∙◌}
-use Rattle.std.specs.Prelude.{is_some, unwrap_or}
+use Rattle.std.proofs.Common.{◌≡◌, ℕ, Bool, true, false, ◌&&◌, if◌then◌else◌, Option, None, Some, map, refl, sym, ap, ap₂, ◌∙◌}
+use Rattle.std.specs.Prelude.{is_none, is_some, unwrap_or}
 use Rattle.fission_ids.specs.declared.context.ContextId.{ContextId}
 use Rattle.field_table.specs.declared.field.Field.{Field}
 use Rattle.field_table.specs.declared.field_set.FieldSet.{FieldSet}
@@ -32,14 +32,14 @@ mark_again Allow = refl
 mark_again Deny = refl
 mark_again Revert = refl
 
-module _ (k : Kept) (b : Bounds) (p : ℕ) (x : ContextId) (owns : Bool) (t : Changes) (reverted : FieldSet) (owner : owns ≡ is_owner (facts_of k) p x) (is : reverted ≡ set_of (is_reverted_in b p x owns t)) where
-  member : (fld : Field) → has reverted fld ≡ is_reverted_in b p x owns t fld
-  member fld = members_set_of reverted (is_reverted_in b p x owns t) is fld
+module _ (k : Kept) (b : Bounds) (p : ℕ) (x : ContextId) (top owns : Bool) (t : Changes) (reverted : FieldSet) (is_top : top ≡ is_none ((facts_of k).contexts.above x)) (owner : owns ≡ is_owner (facts_of k) p x) (is : reverted ≡ set_of (is_reverted_in b p x top owns t)) where
+  member : (fld : Field) → has reverted fld ≡ is_reverted_in b p x top owns t fld
+  member fld = members_set_of reverted (is_reverted_in b p x top owns t) is fld
 
   -- the verdict that the rule has, by the bounds
-  verdict_is : (fld : Field) → verdict b (question_of_heard p x owns fld (unwrap_or (new_value t fld) (Flag false))) ≡ verdict_of (allowed_in b t) (facts_of k) p x t fld
+  verdict_is : (fld : Field) → verdict b (question_of_heard p x top owns fld (unwrap_or (new_value t fld) (Flag false))) ≡ verdict_of (allowed_in b t) (facts_of k) p x t fld
   verdict_is fld =
-      ap (λ (o : Bool). verdict b (question_of_heard p x o fld (unwrap_or (new_value t fld) (Flag false)))) owner
+      ap₂ (λ (l o : Bool). verdict b (question_of_heard p x l o fld (unwrap_or (new_value t fld) (Flag false)))) is_top owner
       ∙ sym (verdict_bounded b (question_of (facts_of k) p x fld (unwrap_or (new_value t fld) (Flag false))))
 
   -- the notes are those of the rule
@@ -55,9 +55,9 @@ module _ (k : Kept) (b : Bounds) (p : ℕ) (x : ContextId) (owns : Bool) (t : Ch
           → noted_as fld (if has reverted fld then Reverted else Applied) ≡ noted_as fld (mark_of (verdict_of (allowed_in b t) (facts_of k) p x t fld))
       same fld e =
           ap (λ (z : Bool). noted_as fld (if z then Reverted else Applied))
-          (member fld ∙ ap (λ z. z && is_reverted (mark_of (verdict b (question_of_heard p x owns fld (unwrap_or (new_value t fld) (Flag false)))))) e)
+          (member fld ∙ ap (λ z. z && is_reverted (mark_of (verdict b (question_of_heard p x top owns fld (unwrap_or (new_value t fld) (Flag false)))))) e)
           ∙ ap (noted_as fld)
-          (mark_again (verdict b (question_of_heard p x owns fld (unwrap_or (new_value t fld) (Flag false)))) ∙ ap mark_of (verdict_is fld))
+          (mark_again (verdict b (question_of_heard p x top owns fld (unwrap_or (new_value t fld) (Flag false)))) ∙ ap mark_of (verdict_is fld))
 
   mark : Field → FieldMark
   mark fld = if has reverted fld then Reverted else Applied

@@ -1,7 +1,12 @@
 pub mod Parent
 pub mod Ruled
 pub mod Codes
+pub mod Posts
 pub mod Sending
 pub mod Writes
-pub mod Faults
+pub mod Heard
 pub mod Contents
+pub mod Sound
+pub mod Membership
+pub mod Envelopes
+pub mod Drafts

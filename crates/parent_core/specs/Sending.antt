@@ -1,33 +1,12 @@
 -- What is sent to the processes, and what is counted then.
-use Rattle.std.specs.Prelude.{◌≡◌, ℕ, ◌==◌, Bool, false, ◌||◌, List, [], ◌∷◌, ◌++◌, if◌then◌else◌}
+use Rattle.std.specs.Prelude.{ℕ, Bool, List, [], ◌∷◌, ◌++◌}
 use Rattle.std.specs.Prelude.{Option, None, Some}
 use Rattle.fission_ids.specs.declared.process.ProcId.{ProcId}
-use Rattle.fission_ids.specs.ProcSet.{has}
 use Rattle.wire_msgs.specs.declared.bundle.DownBundle.{DownBundle}
 use Rattle.wire_msgs.specs.declared.part.DownPart.{DownPart}
-use Rattle.wire_msgs.specs.declared.part.DownPart.TheVariants.{Kill}
-use Rattle.protocol.specs.Bundle.{is_no_bundle}
 use Rattle.protocol.specs.FactsAfter.{raised}
 use Rattle.parent_core.specs.Parent.{Counted}
 use Rattle.parent_core.specs.Ruled.{addressed}
-use Rattle.parent_core.specs.declared.sending.Posts.{Posts}
-
--- whether process q is sent anything
-abbrev pub is_sent_to : Posts → ℕ → Bool
-is_sent_to posts q = has posts.back_to q || has posts.to q
-
--- what process q is sent
-abbrev pub sent_to : Posts → ℕ → List DownPart
-sent_to posts q = if has posts.back_to q then posts.back else if has posts.to q then posts.parts else []
-
--- a Kill for process p alone
-abbrev pub kill_to : ℕ → ℕ → List DownPart
-kill_to p q = if q == p then Kill ∷ [] else []
-
--- there is no empty bundle
-pub record HaveParts (posts : Posts) : Type 0 where
-  pub parts : is_no_bundle posts.parts ≡ false
-  pub back : is_no_bundle posts.back ≡ false
 
 -- parts as a bundle for a process of which this epoch was heard; none is no bundle
 abbrev pub bundle_with : ℕ → List DownPart → Option DownBundle

@@ -1,10 +1,8 @@
-ghost use Rattle.std.specs.Prelude.{◌≡◌, ◌<◌, ◌==◌};
-ghost use Rattle.std.specs.List.{AllByRecursion};
+ghost use Rattle.std.specs.Prelude.{◌≡◌, ◌==◌};
 ghost use Rattle.std.specs.Option.{option_map};
-ghost use Rattle.context_group.specs.Sets.{set_without};
-ghost use Rattle.parent_core.specs.Parent.{cause_of, owner_left, owner_without, subscribers_left};
+ghost use Rattle.parent_core.specs.Parent.{cause_of, owner_left, owner_without};
 
-use fission_ids::{ProcId, ProcSet};
+use fission_ids::ProcId;
 use std::marker::Model;
 use wire_msgs::EndCause;
 
@@ -58,18 +56,6 @@ impl ProcessEnd {
             Some(p) => { if p == self.process { None } else { Some(p) } }
         }
     }
-
-    // A set of processes without the one that was ended.
-    fn leave(&self, s: ProcSet) -> ProcSet
-        requires { self.now.process < 16 }
-        ensures { result ≡ set_without self.now.process s }
-    {
-        if s.has(self.process) {
-            s.without(self.process)
-        } else {
-            s
-        }
-    }
 }
 
 // The newest end comes first in each list.
@@ -87,17 +73,6 @@ pub(crate) fn cause_of(p: ProcId, ends: &[ProcessEnd]) -> Option<EndCause>
                 cause_of(p, older)
             }
         }
-    }
-}
-
-/// The processes of a set that weren't ended.
-pub(crate) fn subscribers_left(ends: &[ProcessEnd], s: ProcSet) -> ProcSet
-    requires { AllByRecursion (λ e. e.process < 16) ends.now }
-    ensures { result ≡ subscribers_left ends.now s }
-{
-    match ends {
-        [] => s,
-        [newest, older @ ..] => newest.leave(subscribers_left(older, s)),
     }
 }
 

@@ -3,14 +3,23 @@
 //! knows a journal or a link.
 #![tactic(auto)]
 
+mod acting;
 mod contents;
+mod drafts;
 mod ending;
+mod envelopes;
+mod hanging;
+mod hearing;
+mod judging;
+mod membership;
+mod origin;
 mod parent;
+mod parts;
+mod posts;
 mod process;
 mod ruled;
 mod sending;
 mod starting;
-mod tabs;
 mod writes;
 
 pub use parent::Parent;

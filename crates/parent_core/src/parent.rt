@@ -1,59 +1,58 @@
-ghost use Rattle.std.specs.Prelude.{◌≡◌, ℕ, ◌<◌, ◌≤◌, ◌+◌, ◌-◌, ◌^◌, ◌∷◌, [], ◌==◌, ◌&&◌, not, length};
-ghost use Rattle.std.specs.Prelude.{is_some, if◌then◌else◌, map, None, IfOk, OnOk, MatchOption, true, false};
-ghost use Rattle.std.specs.List.{list_any};
+ghost use Rattle.std.specs.Prelude.{◌≡◌, ℕ, ◌<◌, ◌≤◌, ◌+◌, ◌-◌, ◌^◌, length, None, Some, IfOk, OnOk, true};
+ghost use Rattle.std.specs.Prelude.{MatchOption, if◌then◌else◌, false, map, ⊤};
 ghost use Rattle.std.specs.Option.{option_copied, option_map};
+ghost use Rattle.fission_ids.specs.declared.context.ContextId.{ContextId};
 ghost use Rattle.fission_ids.specs.ProcSet.{has};
-ghost use Rattle.wire_msgs.specs.Config.{ConfigFits};
-ghost use Rattle.wire_msgs.specs.declared.action.ParentAction.TheVariants as actions;
-ghost use Rattle.wire_msgs.specs.declared.part.DownPart.TheVariants as downs;
-ghost use Rattle.protocol.specs.Questions.{is_judged, is_told, is_owner};
-ghost use Rattle.protocol.specs.Sayings.Saying.{Counted, Ended, Wrote};
-ghost use Rattle.protocol.specs.Start.{facts_at_start, is_live, numbers};
-ghost use Rattle.protocol.specs.FactsAfter.{facts_after};
-ghost use Rattle.protocol.specs.ParentActs.{action_ruling};
-ghost use Rattle.protocol.specs.Bundle.{after_sending, bundle_ruling, end_parts, end_ruling, ruling};
-ghost use Rattle.parent_core.specs.Parent.{facts_of, IsPlayed};
-ghost use Rattle.parent_core.specs.Ruled.{RuledBy, Counts};
-ghost use Rattle.parent_core.specs.Sending.{bundles_to, HaveParts, kill_to, sent_to};
-ghost use Rattle.parent_core.specs.Writes.{part_to};
-ghost use Rattle.parent_core.specs.Faults.{fault_in_bundle, fault_in_parts, fault_in_commit};
-ghost use Rattle.protocol.specs.Commits.{AreCommits, commit_ruling, judged_ruling};
-ghost use Rattle.protocol.specs.Hear.{field_notes};
-ghost use Rattle.protocol.specs.Outside.{allowed_in, allowed_of};
-ghost use Rattle.field_rules.specs.RuleBounds.{bounds_of};
 ghost use Rattle.field_table.specs.Field.{fields};
 ghost use Rattle.field_table.specs.FieldSet.{has as has_field};
-ghost use Rattle.wire_msgs.specs.declared.note.PartNote.TheVariants as notes;
+ghost use Rattle.context_tree.specs.Tree.{contexts, is_held, is_under, parent_in};
+ghost use Rattle.wire_msgs.specs.Config.{ConfigFits};
+ghost use Rattle.protocol.specs.Questions.{is_told, is_owner};
+ghost use Rattle.protocol.specs.Sayings.Saying.{Acked, BornDead, Counted, Ended, Made, Removed, Wrote};
+ghost use Rattle.protocol.specs.Start.{facts_at_start, numbers};
+ghost use Rattle.protocol.specs.FactsAfter.{facts_after};
+ghost use Rattle.protocol.specs.Hear.{is_new_frame};
+ghost use Rattle.protocol.specs.Bundle.{after_sending};
+ghost use Rattle.parent_core.specs.Parent.{facts_of, origin_of, owner_in, owner_left};
+ghost use Rattle.parent_core.specs.Sound.{IsSound};
+ghost use Rattle.parent_core.specs.Posts.{bundle_parts};
+ghost use Rattle.parent_core.specs.Sending.{bundles_to};
 
-use crate::contents::commit_to;
-use crate::ending::{ProcessEnd, cause_of, owner_left, subscribers_left};
-use crate::process::{Process, bundles_sent, count_sent, due, record_epoch};
-use crate::ruled::Ruled;
-use crate::sending::{Posts, bundles, commit_part, kill_for};
-use crate::starting::{contexts_of, start_processes};
-use crate::tabs::tab_of;
-use crate::writes::{
-    commit_in, commit_of, denial, denial_heard, is_empty, judged_answer, reverted_fields,
-    values_of, without,
+use crate::contents::{add_to, commit_to, remove_all};
+use crate::ending::{ProcessEnd, cause_of, owner_left};
+use crate::hanging::{attach, detach};
+use crate::membership::{
+    acknowledge, await_if_kept, drop_process, grow, one_subscribed, shrink_by, subscribed_but,
 };
+use crate::origin::{Origin, note_origin};
+use crate::posts::Post;
+use crate::process::{Process, bundles_sent, count_sent, epoch_heard, record_epoch};
+use crate::sending::bundles;
+use crate::starting::{contexts_of, groups_of, nodes_of, origins_of, start_processes};
+use crate::writes::values_of;
+use context_group::Groups;
 use context_store::{SlabStore, Store};
-use field_rules::Rules;
+use context_tree::Tree;
 use field_table::{Field, FieldSet, Value};
 use fission_ids::{ContextId, Duplicate, Epoch, GroupId, OutOfMemory, ProcId, ProcSet, Seq};
 use std::alloc::Global;
+use std::collections::HashMap;
 use std::marker::Model;
 use transaction::Transaction;
-use wire_msgs::{
-    Answer, Config, DownBundle, EndCause, ParentAction, PartNote, Refusal, UpBundle, UpPart,
-};
+use wire_msgs::{Config, DownBundle, EndCause};
 
-/// The parent, seen as what it keeps: its configuration, the live contexts with their fields, the counts of
-/// each process, and the processes that were ended.
+/// The parent, seen as what it keeps: its configuration, the tree of the live contexts with their fields,
+/// what was fixed when each context was made, the groups, the counts of each process, and the processes that
+/// were ended.
 #[derive(Debug, Drop)]
 pub struct Parent {
     alloc: Global,
     config: Config,
+    tree: Tree,
     contexts: SlabStore,
+    // Of each context that was made, live or not.
+    known: HashMap<ContextId, Origin>,
+    groups: Groups,
     // By the numbers of the processes.
     processes: Vec<Process>,
     // The newest first. Each process ends once, so that they are at most sixteen.
@@ -70,14 +69,20 @@ impl Model for Parent {
 
     ghost view = { λ p. record {
       config = p.config;
+      nodes = p.tree;
       contexts = p.contexts;
+      origins = p.known.entries;
+      groups = p.groups;
       processes = p.processes.items;
       ends = p.ends.items;
     } };
 
     ghost invariant = { λ p. HoldsAll (record {
       config = p.config;
+      nodes = p.tree;
       contexts = p.contexts;
+      origins = p.known.entries;
+      groups = p.groups;
       processes = p.processes.items;
       ends = p.ends.items;
     }) };
@@ -91,12 +96,19 @@ impl Parent {
         ensures facts { IfOk result (λ t. facts_of t ≡ facts_at_start config.now.tabs) }
     {
         let config = config.copy()?;
-        let contexts = contexts_of(alloc, config.tabs.as_slice())?;
+        let tabs = config.tabs.as_slice();
+        let tree = nodes_of(alloc, tabs)?;
+        let contexts = contexts_of(alloc, tabs)?;
+        let known = origins_of(alloc, tabs)?;
+        let groups = groups_of(alloc, tabs)?;
         let processes = start_processes(alloc, config.types.len())?;
         Ok(Parent {
             alloc,
             config,
+            tree,
             contexts,
+            known,
+            groups,
             processes,
             ends: Vec::new(alloc),
         })
@@ -116,34 +128,162 @@ impl Parent {
         let _ = &self.processes;
     }
 
-    /// The parent acts of its own accord.
-    pub fn act(self, action: ParentAction) -> Result<Ruled, OutOfMemory>
-        requires action { IsPlayed (length self.config.types) action }
-        requires counts { Counts self }
-        ensures { IfOk result (λ r. RuledBy self
-            (action_ruling (λ f. f) facts_after (length self.config.types) action (facts_of self)) r) }
+    /// The process that owns a context. None where its owner was ended, or the context isn't live.
+    pub fn owner(&self, x: ContextId) -> Option<ProcId>
+        ensures { option_map (λ p. p.0) result ≡ (facts_of self.now).contexts.owner x }
     {
-        match action {
-            ParentAction::Set { context, fields } => self.set(context, fields.into_inner()),
-            ParentAction::Kill { process } => self.kill(process),
-            _ => unreachable!(),
+        if self.tree.holds(x) {
+            self.owner_left(x)
+        } else {
+            None
         }
     }
 
-    /// The parent hears a bundle of process p, and judges it by the rules. A bundle that may not be sent so
-    /// ends its sender, and nothing of it is done; one of a process that was ended is ignored.
-    pub fn hear(self, rules: &Rules, p: ProcId, bundle: UpBundle) -> Result<Ruled, OutOfMemory>
-        requires process { p.0 < length self.config.types }
-        requires parts { AreCommits bundle.parts }
-        requires counts { Counts self }
-        ensures { IfOk result (λ r. RuledBy self
-            (bundle_ruling (λ f. f) facts_after (length self.config.types)
-            (allowed_of (bounds_of rules.now) bundle) p.0 bundle (facts_of self)) r) }
+    /// The group of a context. None exactly where the context isn't live.
+    pub fn group(&self, x: ContextId) -> Option<GroupId>
+        ensures { result ≡ (if (facts_of self.now).contexts.live x
+            then (facts_of self.now).contexts.group x else None) }
     {
-        match self.end_cause(p) {
-            Some(_) => Ok(self.ignore_bundle()),
-            None => self.hear_running(rules, p, bundle),
+        if self.tree.holds(x) {
+            self.group_of(x)
+        } else {
+            None
         }
+    }
+
+    /// The live contexts, as they hang together.
+    pub fn tree(&self) -> &Tree
+        ensures order { contexts result.now ≡ (facts_of self.now).contexts.order }
+        ensures held { (x : ContextId) → is_held x result.now ≡ (facts_of self.now).contexts.live x }
+        ensures above { (x : ContextId) → parent_in x result.now ≡
+            (if (facts_of self.now).contexts.live x then (facts_of self.now).contexts.above x else None) }
+        ensures under { (x y : ContextId) →
+            is_under x y result.now ≡ (facts_of self.now).contexts.under x y }
+    {
+        &self.tree
+    }
+
+    /// Whether a context was made, be it live or not.
+    pub(crate) fn is_known(&self, x: ContextId) -> bool
+        ensures { result ≡ (facts_of self.now).contexts.known x }
+    {
+        self.origin(x).is_some()
+    }
+
+    /// Whether a context was made and not discarded.
+    pub(crate) fn is_live(&self, x: ContextId) -> bool
+        ensures { result ≡ (facts_of self.now).contexts.live x }
+    {
+        self.tree.holds(x)
+    }
+
+    /// The context that a known one is a frame of, be it live or not. None for a top-level one.
+    pub(crate) fn above(&self, x: ContextId) -> Option<ContextId>
+        ensures { result ≡ (facts_of self.now).contexts.above x }
+    {
+        self.origin(x)?.parent
+    }
+
+    /// Whether the first is live, and is the second or below it.
+    pub(crate) fn is_under(&self, x: ContextId, y: ContextId) -> bool
+        ensures { result ≡ (facts_of self.now).contexts.under x y }
+    {
+        self.tree.is_under(x, y)
+    }
+
+    /// The group of a context that was made, be it live or not.
+    pub(crate) fn group_of(&self, x: ContextId) -> Option<GroupId>
+        ensures { result ≡ (facts_of self.now).contexts.group x }
+    {
+        Some(self.origin(x)?.group)
+    }
+
+    /// Whether process p owns a context.
+    pub(crate) fn is_owner(&self, p: ProcId, x: ContextId) -> bool
+        ensures { result ≡ is_owner (facts_of self.now) p.0 x }
+    {
+        match self.owner(x) {
+            None => false,
+            Some(owner) => owner == p,
+        }
+    }
+
+    /// The processes that are told of a context, none where it isn't known.
+    pub(crate) fn subscribers(&self, x: ContextId) -> ProcSet
+        ensures { (q : ℕ) → has result q ≡ is_told (facts_of self.now) q x }
+    {
+        match self.group_of(x) {
+            None => ProcSet::EMPTY,
+            Some(g) => self.groups.subscribers(g),
+        }
+    }
+
+    /// Whether process p is told of a context.
+    pub(crate) fn is_told(&self, p: ProcId, x: ContextId) -> bool
+        requires { p.0 < 16 }
+        ensures { result ≡ is_told (facts_of self.now) p.0 x }
+    {
+        self.subscribers(x).has(p)
+    }
+
+    /// The epoch that was heard last of process p.
+    pub(crate) fn epoch_heard(&self, p: ProcId) -> Epoch
+        requires process { p.0 < length self.now.config.types }
+        ensures { result.0 ≡ (facts_of self.now).processes.commits_heard p.0 }
+    {
+        epoch_heard(p, self.processes.as_slice())
+    }
+
+    /// How many bundles were sent to process p.
+    pub(crate) fn bundles_sent(&self, p: ProcId) -> u64
+        requires process { p.0 < length self.now.config.types }
+        ensures { result ≡ (facts_of self.now).processes.bundles_sent p.0 }
+    {
+        bundles_sent(p, self.processes.as_slice())
+    }
+
+    /// The parent's values of the fields of a set.
+    pub(crate) fn present(&self, x: ContextId, s: FieldSet) -> Result<Transaction, OutOfMemory>
+        ensures { IfOk result (λ t. t ≡ map
+            (λ f. if has_field s f then (facts_of self.now).contexts.value x f else None) fields) }
+    {
+        match self.contexts.get(x) {
+            None => Ok(Transaction::new()),
+            Some(fields) => values_of(fields, s),
+        }
+    }
+
+    /// Known contexts and live ones hang together as its answers say. Takes no time.
+    pub(crate) fn stands_soundly(&self)
+        ensures { IsSound (facts_of self.now) }
+    {
+        let _ = &self.known;
+    }
+
+    // The group of a context that was made.
+    fn group_of_known(&self, x: ContextId) -> GroupId
+        requires { (facts_of self.now).contexts.known x ≡ true }
+        ensures { (facts_of self.now).contexts.group x ≡ Some result }
+    {
+        match self.group_of(x) {
+            Some(group) => group,
+            None => unreachable!(),
+        }
+    }
+
+    // What was fixed when a context was made.
+    fn origin(&self, x: ContextId) -> Option<Origin>
+        ensures { result ≡ origin_of x self.now.origins }
+    {
+        self.known.get(&x).copied()
+    }
+
+    // The process that owns a live context.
+    fn owner_left(&self, x: ContextId) -> Option<ProcId>
+        ensures { option_map (λ p. p.0) result ≡ owner_left self.now.ends (owner_in x self.now.origins) }
+    {
+        let owner = self.origin(x).map(|origin| origin.owner);
+        owner_left(self.ends.as_slice(), owner)
     }
 
     /// Why a process was ended. None exactly where it wasn't.
@@ -163,407 +303,245 @@ impl Parent {
         }
     }
 
-    /// The process that owns a context. None where its owner was ended, or the context isn't live.
-    pub fn owner(&self, x: ContextId) -> Option<ProcId>
-        ensures { option_map (λ p. p.0) result ≡ (facts_of self.now).contexts.owner x }
-    {
-        let owner = tab_of(self.config.tabs.as_slice(), x).map(|tab| tab.owner);
-        owner_left(self.ends.as_slice(), owner)
-    }
-
-    /// The group of a context. None exactly where the context isn't live.
-    pub fn group(&self, x: ContextId) -> Option<GroupId>
-        ensures { result ≡ (facts_of self.now).contexts.group x }
-    {
-        tab_of(self.config.tabs.as_slice(), x).map(|_| GroupId(x.serial))
-    }
-
-    // The allocator.
-    fn alloc(&self) -> Global {
+    /// The allocator.
+    pub(crate) fn alloc(&self) -> Global {
         self.alloc
     }
 
-    // There are at most sixteen processes.
-    fn has_few_processes(&self)
+    /// There are at most sixteen processes.
+    pub(crate) fn has_few_processes(&self)
         ensures { length self.now.config.types ≤ 16 }
     {
         let _ = &self.config;
     }
 
-    // The processes that are told of a context. None exactly where it isn't live.
-    fn subscribers(&self, x: ContextId) -> Option<ProcSet>
-        ensures { MatchOption result (is_live self.now.config.tabs x ≡ false) (λ s.
-            (is_live self.now.config.tabs x ≡ true) × ((q : ℕ) → has s q ≡ is_told (facts_of self.now) q x)) }
-    {
-        match tab_of(self.config.tabs.as_slice(), x) {
-            None => None,
-            Some(tab) => Some(subscribers_left(self.ends.as_slice(), tab.also.with(tab.owner))),
-        }
-    }
-
-    // The parent writes fields of a context, unless that is refused.
-    fn set(self, x: ContextId, t: Transaction) -> Result<Ruled, OutOfMemory>
-        requires { Counts self }
-        ensures { IfOk result (λ r. RuledBy self
-            (action_ruling (λ f. f) facts_after (length self.config.types) (actions.Set x t)
-            (facts_of self)) r) }
-    {
-        match self.subscribers(x) {
-            None => Ok(self.refuse(Refusal::NoContext)),
-            Some(to) => self.set_live(x, t, to),
-        }
-    }
-
-    // The parent writes fields of a live context, unless fixed facts deny it.
-    fn set_live(self, x: ContextId, t: Transaction, to: ProcSet) -> Result<Ruled, OutOfMemory>
-        requires counts { Counts self }
-        requires live { is_live self.config.tabs x ≡ true }
-        requires to { (q : ℕ) → has to q ≡ is_told (facts_of self) q x }
-        ensures { IfOk result (λ r. RuledBy self
-            (action_ruling (λ f. f) facts_after (length self.config.types) (actions.Set x t)
-            (facts_of self)) r) }
-    {
-        match denial(x, &t) {
-            Some(why) => Ok(self.refuse(why)),
-            None => self.write_to(x, t, to),
-        }
-    }
-
-    // An action is refused.
-    fn refuse(self, why: Refusal) -> Ruled
-        ensures { result ≡ record { core = self; answer = Answer.Refused why; sent = [] } }
-    {
-        let sent = Seq::new(self.alloc());
-        Ruled {
-            core: self,
-            answer: Answer::Refused(why),
-            sent,
-        }
-    }
-
-    // The parent writes fields of a live context, and tells the processes of a set.
-    fn write_to(self, x: ContextId, t: Transaction, to: ProcSet) -> Result<Ruled, OutOfMemory>
-        requires counts { (q : ℕ) → (facts_of self).processes.bundles_sent q < 2 ^ 64 - 1 }
-        requires live { is_live self.config.tabs x ≡ true }
-        ensures { IfOk result (λ r. RuledBy self
-            (ruling (λ f. f) facts_after (length self.config.types) Answer.Done
-            (part_to to (downs.Commit x t)) (facts_after (Wrote x t) (facts_of self))) r) }
-    {
-        let parts = commit_part(self.alloc(), x, &t)?;
-        let posts = Posts {
-            to,
-            back: parts.copy()?,
-            parts,
-            back_to: ProcSet::EMPTY,
-        };
-        self.write(x, t, &posts, Answer::Done)
-    }
-
-    // The parent kills a process, unless that was ended.
-    fn kill(self, p: ProcId) -> Result<Ruled, OutOfMemory>
+    /// Process p made a frame, which it owns.
+    pub(crate) fn make(
+        self,
+        p: ProcId,
+        x: ContextId,
+        above: ContextId,
+    ) -> Result<Parent, OutOfMemory>
         requires process { p.0 < length self.config.types }
-        requires counts { Counts self }
-        ensures { IfOk result (λ r. RuledBy self
-            (action_ruling (λ f. f) facts_after (length self.config.types) (actions.Kill p)
-            (facts_of self)) r) }
-    {
-        match self.end_cause(p) {
-            Some(_) => Ok(self.refuse(Refusal::NoProcess)),
-            None => self.end(p, EndCause::Killed, Answer::Done),
-        }
-    }
-
-    // A bundle changes and sends nothing.
-    fn ignore_bundle(self) -> Ruled
-        ensures { result ≡ record { core = self; answer = Answer.Ignored; sent = [] } }
-    {
-        let sent = Seq::new(self.alloc());
-        Ruled {
-            core: self,
-            answer: Answer::Ignored,
-            sent,
-        }
-    }
-
-    // A bundle of a process that wasn't ended is judged. Its epoch is recorded where it is the one that is
-    // due, whatever else is wrong with the bundle.
-    fn hear_running(self, rules: &Rules, p: ProcId, bundle: UpBundle) -> Result<Ruled, OutOfMemory>
-        requires process { p.0 < length self.config.types }
-        requires parts { AreCommits bundle.parts }
-        requires counts { Counts self }
         requires runs { (facts_of self).processes.ended p.0 ≡ None }
-        ensures { IfOk result (λ r. RuledBy self
-            (bundle_ruling (λ f. f) facts_after (length self.config.types)
-            (allowed_of (bounds_of rules.now) bundle) p.0 bundle (facts_of self)) r) }
+        requires frame { is_new_frame p.0 x ≡ true }
+        requires new { (facts_of self).contexts.known x ≡ false }
+        requires above { (facts_of self).contexts.live above ≡ true }
+        ensures config { IfOk result (λ t. t.config ≡ self.config) }
+        ensures facts { IfOk result (λ t. facts_of t ≡ facts_after (Made p.0 x above) (facts_of self)) }
     {
-        let UpBundle { epoch, seen, parts } = bundle;
-        let due = self.due(p);
-        if epoch != due {
-            return self.end_sender(p, EndCause::BadEpoch { said: epoch, due });
-        }
-        let mut core = self;
-        core.record(p, epoch);
-        match core.fault(p, seen, &parts) {
-            Some(cause) => core.end_sender(p, cause),
-            None => {
-                let (context, change) = commit_in(parts);
-                core.judge(rules, p, context, change)
-            }
-        }
-    }
-
-    // The epoch that is due of a commit of process p.
-    fn due(&self, p: ProcId) -> Epoch
-        requires process { p.0 < length self.now.config.types }
-        requires count { (facts_of self.now).processes.commits_heard p.0 < 2 ^ 64 - 1 }
-        ensures { result.0 ≡ (facts_of self.now).processes.commits_heard p.0 + 1 }
-    {
-        due(p, self.processes.as_slice())
-    }
-
-    // Why a bundle of commits ends process p, behind the count of one, if it does.
-    fn fault(&self, p: ProcId, seen: u64, parts: &Seq<UpPart>) -> Option<EndCause>
-        requires { p.0 < length self.now.config.types }
-        ensures { result ≡ fault_in_bundle (facts_of self.now) p.0 seen parts.now }
-    {
-        let sent = bundles_sent(p, self.processes.as_slice());
-        if seen > sent {
-            Some(EndCause::BadStamp { said: seen, sent })
-        } else {
-            self.fault_in_parts(p, parts.as_slice())
-        }
-    }
-
-    // Why the parts of such a bundle end it, if they do.
-    fn fault_in_parts(&self, p: ProcId, parts: &[UpPart]) -> Option<EndCause>
-        requires { p.0 < length self.now.config.types }
-        ensures { result ≡ fault_in_parts (facts_of self.now) p.0 parts.now }
-    {
-        match commit_of(parts) {
-            Some((context, change)) => self.fault_in_commit(p, context, change),
-            None => Some(EndCause::BadPart { number: 2 }),
-        }
-    }
-
-    // Why the one commit of such a bundle ends it, if it does.
-    fn fault_in_commit(&self, p: ProcId, x: ContextId, t: &Transaction) -> Option<EndCause>
-        requires { p.0 < length self.now.config.types }
-        ensures { result ≡ fault_in_commit (facts_of self.now) p.0 x t.now }
-    {
-        if self.is_judged(p, x) {
-            denial_heard(p, x, self.is_owner(p, x), t)
-        } else {
-            None
-        }
-    }
-
-    // Whether a commit of process p to a context is judged.
-    fn is_judged(&self, p: ProcId, x: ContextId) -> bool
-        requires { p.0 < length self.now.config.types }
-        ensures { result ≡ is_judged (facts_of self.now) p.0 x }
-    {
-        self.has_few_processes();
-        match self.subscribers(x) {
-            None => false,
-            Some(all) => all.has(p),
-        }
-    }
-
-    // Process p is ended for what it sent.
-    fn end_sender(self, p: ProcId, cause: EndCause) -> Result<Ruled, OutOfMemory>
-        requires process { p.0 < length self.config.types }
-        requires counts { (q : ℕ) → (facts_of self).processes.bundles_sent q < 2 ^ 64 - 1 }
-        requires kills { end_parts cause ≡ downs.Kill ∷ [] }
-        ensures { IfOk result (λ r. RuledBy self
-            (end_ruling (λ f. f) facts_after (length self.config.types) p.0 cause (facts_of self)) r) }
-    {
-        self.end(p, cause, Answer::Ended(cause))
-    }
-
-    // Process p is ended, and is sent a Kill.
-    fn end(self, p: ProcId, cause: EndCause, answer: Answer) -> Result<Ruled, OutOfMemory>
-        requires process { p.0 < length self.config.types }
-        requires counts { (q : ℕ) → (facts_of self).processes.bundles_sent q < 2 ^ 64 - 1 }
-        ensures { IfOk result (λ r. RuledBy self
-            (ruling (λ f. f) facts_after (length self.config.types) answer (kill_to p.0)
-            (facts_after (Ended p.0 cause) (facts_of self))) r) }
-    {
-        self.has_few_processes();
-        let posts = kill_for(self.alloc(), p)?;
-        let mut core = self;
-        core.note_end(p, cause)?;
-        let sent = core.send_out(&posts)?;
-        Ok(Ruled { core, answer, sent })
-    }
-
-    // A commit of process p is done as the rules judge it where it is judged, else ignored.
-    fn judge(
-        self,
-        rules: &Rules,
-        p: ProcId,
-        x: ContextId,
-        t: Transaction,
-    ) -> Result<Ruled, OutOfMemory>
-        requires process { p.0 < length self.config.types }
-        requires counts { (q : ℕ) → (facts_of self).processes.bundles_sent q < 2 ^ 64 - 1 }
-        ensures { IfOk result (λ r. RuledBy self
-            (commit_ruling (λ f. f) facts_after (length self.config.types) p.0 x t
-            (field_notes (allowed_in (bounds_of rules.now) t) (facts_of self) p.0 x t)
-            (facts_of self)) r) }
-    {
-        match self.subscribers(x) {
-            None => self.ignore(x),
-            Some(all) => self.judge_live(rules, p, x, t, all),
-        }
-    }
-
-    // A commit of process p to a live context is done where the process is subscribed, else ignored.
-    fn judge_live(
-        self,
-        rules: &Rules,
-        p: ProcId,
-        x: ContextId,
-        t: Transaction,
-        all: ProcSet,
-    ) -> Result<Ruled, OutOfMemory>
-        requires process { p.0 < length self.config.types }
-        requires counts { (q : ℕ) → (facts_of self).processes.bundles_sent q < 2 ^ 64 - 1 }
-        requires live { is_live self.config.tabs x ≡ true }
-        requires all { (q : ℕ) → has all q ≡ is_told (facts_of self) q x }
-        ensures { IfOk result (λ r. RuledBy self
-            (commit_ruling (λ f. f) facts_after (length self.config.types) p.0 x t
-            (field_notes (allowed_in (bounds_of rules.now) t) (facts_of self) p.0 x t)
-            (facts_of self)) r) }
-    {
-        self.has_few_processes();
-        if all.has(p) {
-            self.apply(rules, p, x, t, all)
-        } else {
-            self.ignore(x)
-        }
-    }
-
-    // A commit of process p is done: what is reverted goes back to it with the present values, and every
-    // other subscriber is told the rest.
-    fn apply(
-        self,
-        rules: &Rules,
-        p: ProcId,
-        x: ContextId,
-        t: Transaction,
-        all: ProcSet,
-    ) -> Result<Ruled, OutOfMemory>
-        requires process { p.0 < length self.config.types }
-        requires counts { (q : ℕ) → (facts_of self).processes.bundles_sent q < 2 ^ 64 - 1 }
-        requires live { is_live self.config.tabs x ≡ true }
-        requires all { (q : ℕ) → has all q ≡ is_told (facts_of self) q x }
-        ensures { IfOk result (λ r. RuledBy self
-            (judged_ruling (λ f. f) facts_after (length self.config.types) p.0 x t
-            (field_notes (allowed_in (bounds_of rules.now) t) (facts_of self) p.0 x t)
-            (facts_of self)) r) }
-    {
-        self.has_few_processes();
-        let alloc = self.alloc();
-        let reverted = reverted_fields(rules, p, x, self.is_owner(p, x), &t);
-        let answer = judged_answer(alloc, x, &t, reverted)?;
-        let back = self.present(x, reverted)?;
-        let applied = without(t, reverted);
-        let posts = Posts {
-            to: others(all, p, &applied),
-            parts: commit_part(alloc, x, &applied)?,
-            back_to: sender(p, &back),
-            back: commit_part(alloc, x, &back)?,
+        let group = self.group_of_known(above);
+        let Parent {
+            alloc,
+            config,
+            mut tree,
+            mut contexts,
+            mut known,
+            mut groups,
+            processes,
+            ends,
+        } = self;
+        attach(&mut tree, Some(above), x)?;
+        add_to(&mut contexts, x)?;
+        let origin = Origin {
+            group,
+            parent: Some(above),
+            owner: p,
         };
-        self.write(x, applied, &posts, answer)
-    }
-
-    // Whether process p owns a context.
-    fn is_owner(&self, p: ProcId, x: ContextId) -> bool
-        ensures { result ≡ is_owner (facts_of self.now) p.0 x }
-    {
-        match self.owner(x) {
-            None => false,
-            Some(owner) => owner == p,
-        }
-    }
-
-    // The parent's values of the fields of a set.
-    fn present(&self, x: ContextId, s: FieldSet) -> Result<Transaction, OutOfMemory>
-        ensures { IfOk result (λ t. t ≡ map
-            (λ f. if has_field s f then (facts_of self.now).contexts.value x f else None) fields) }
-    {
-        match self.contexts.get(x) {
-            None => Ok(Transaction::new()),
-            Some(fields) => values_of(fields, s),
-        }
-    }
-
-    // A commit changes and sends nothing.
-    fn ignore(self, x: ContextId) -> Result<Ruled, OutOfMemory>
-        ensures { IfOk result (λ r. r ≡ record {
-          core = self;
-          answer = Answer.Parts (notes.CommitIgnored x ∷ []);
-          sent = [];
-        }) }
-    {
-        let alloc = self.alloc();
-        let notes = Seq::from_vec(vec![in alloc; PartNote::CommitIgnored(x)]?);
-        Ok(Ruled {
-            core: self,
-            answer: Answer::Parts(notes),
-            sent: Seq::new(alloc),
+        note_origin(&mut known, x, origin)?;
+        grow(&mut groups, group);
+        Ok(Parent {
+            alloc,
+            config,
+            tree,
+            contexts,
+            known,
+            groups,
+            processes,
+            ends,
         })
     }
 
-    // Fields of a live context are written, and this is sent.
-    fn write(
+    /// Process p made a frame too late, so that it was never live.
+    pub(crate) fn bear_dead(
         self,
+        p: ProcId,
         x: ContextId,
-        t: Transaction,
-        posts: &Posts,
-        answer: Answer,
-    ) -> Result<Ruled, OutOfMemory>
-        requires counts { (q : ℕ) → (facts_of self).processes.bundles_sent q < 2 ^ 64 - 1 }
-        requires live { is_live self.config.tabs x ≡ true }
-        requires parts { HaveParts posts.now }
-        ensures { IfOk result (λ r. RuledBy self
-            (ruling (λ f. f) facts_after (length self.config.types) answer (sent_to posts.now)
-            (facts_after (Wrote x t) (facts_of self))) r) }
+        above: ContextId,
+    ) -> Result<Parent, OutOfMemory>
+        requires process { p.0 < length self.config.types }
+        requires runs { (facts_of self).processes.ended p.0 ≡ None }
+        requires frame { is_new_frame p.0 x ≡ true }
+        requires new { (facts_of self).contexts.known x ≡ false }
+        requires above { (facts_of self).contexts.known above ≡ true }
+        ensures config { IfOk result (λ t. t.config ≡ self.config) }
+        ensures facts { IfOk result (λ t. facts_of t ≡ facts_after (BornDead p.0 x above) (facts_of self)) }
     {
-        let mut core = self;
-        core.commit(x, t);
-        let sent = core.send_out(posts)?;
-        Ok(Ruled { core, answer, sent })
+        let group = self.group_of_known(above);
+        let Parent {
+            alloc,
+            config,
+            tree,
+            contexts,
+            mut known,
+            mut groups,
+            processes,
+            ends,
+        } = self;
+        let who = one_subscribed(&groups, group, p);
+        let origin = Origin {
+            group,
+            parent: Some(above),
+            owner: p,
+        };
+        note_origin(&mut known, x, origin)?;
+        await_if_kept(&mut groups, group, who, x)?;
+        Ok(Parent {
+            alloc,
+            config,
+            tree,
+            contexts,
+            known,
+            groups,
+            processes,
+            ends,
+        })
     }
 
-    // Gives fields of a live context their new values.
-    fn commit(&mut self, x: ContextId, t: Transaction)
-        requires live { is_live self.old.config.tabs x ≡ true }
-        ensures config { self.new.config ≡ self.old.config }
-        ensures facts { facts_of self.new ≡ facts_after (Wrote x t) (facts_of self.old) }
+    /// A context is gone with all below it, and the subscribers, but perhaps one, owe an acknowledgement.
+    pub(crate) fn remove(self, x: ContextId, but: Option<ProcId>) -> Result<Parent, OutOfMemory>
+        requires live { (facts_of self).contexts.live x ≡ true }
+        requires but { MatchOption but ⊤ (λ p. p.0 < 16) }
+        ensures config { IfOk result (λ t. t.config ≡ self.config) }
+        ensures facts { IfOk result (λ t.
+            facts_of t ≡ facts_after (Removed x (option_map (λ p. p.0) but)) (facts_of self)) }
     {
-        commit_to(&mut self.contexts, x, t);
+        let group = self.group_of_known(x);
+        let Parent {
+            alloc,
+            config,
+            mut tree,
+            mut contexts,
+            known,
+            mut groups,
+            processes,
+            ends,
+        } = self;
+        let who = subscribed_but(&groups, group, but);
+        let gone = detach(&mut tree, x)?;
+        await_if_kept(&mut groups, group, who, x)?;
+        remove_all(&mut contexts, gone.as_slice());
+        shrink_by(&mut groups, group, gone.len());
+        Ok(Parent {
+            alloc,
+            config,
+            tree,
+            contexts,
+            known,
+            groups,
+            processes,
+            ends,
+        })
     }
 
-    // Process p is ended for good.
-    fn note_end(&mut self, p: ProcId, cause: EndCause) -> Result<(), OutOfMemory>
-        requires { p.0 < length self.old.config.types }
-        ensures config { OnOk result (self.new.config ≡ self.old.config) }
-        ensures facts { OnOk result
-            (facts_of self.new ≡ facts_after (Ended p.0 cause) (facts_of self.old)) }
+    /// Process p acknowledged the discard of a context.
+    pub(crate) fn acknowledge(self, p: ProcId, x: ContextId) -> Parent
+        requires { p.0 < length self.config.types }
+        ensures config { result.config ≡ self.config }
+        ensures facts { facts_of result ≡ facts_after (Acked p.0 x) (facts_of self) }
     {
-        self.ends.insert(0, ProcessEnd::new(p, cause))?;
-        Ok(())
+        let Parent {
+            alloc,
+            config,
+            tree,
+            contexts,
+            known,
+            mut groups,
+            processes,
+            ends,
+        } = self;
+        acknowledge(&mut groups, p, x);
+        Parent {
+            alloc,
+            config,
+            tree,
+            contexts,
+            known,
+            groups,
+            processes,
+            ends,
+        }
     }
 
-    // The bundles that are sent, which are counted.
-    fn send_out(&mut self, posts: &Posts) -> Result<Seq<(ProcId, DownBundle)>, OutOfMemory>
-        requires counts { (q : ℕ) → (facts_of self.old).processes.bundles_sent q < 2 ^ 64 - 1 }
-        requires parts { HaveParts posts.now }
+    /// Fields of a live context have new values.
+    pub(crate) fn write(self, x: ContextId, t: Transaction) -> Parent
+        requires { (facts_of self).contexts.live x ≡ true }
+        ensures config { result.config ≡ self.config }
+        ensures facts { facts_of result ≡ facts_after (Wrote x t) (facts_of self) }
+    {
+        let Parent {
+            alloc,
+            config,
+            tree,
+            mut contexts,
+            known,
+            groups,
+            processes,
+            ends,
+        } = self;
+        commit_to(&mut contexts, x, t);
+        Parent {
+            alloc,
+            config,
+            tree,
+            contexts,
+            known,
+            groups,
+            processes,
+            ends,
+        }
+    }
+
+    /// Process p is ended for good.
+    pub(crate) fn note_end(self, p: ProcId, cause: EndCause) -> Result<Parent, OutOfMemory>
+        requires { p.0 < length self.config.types }
+        ensures config { IfOk result (λ t. t.config ≡ self.config) }
+        ensures facts { IfOk result (λ t. facts_of t ≡ facts_after (Ended p.0 cause) (facts_of self)) }
+    {
+        let Parent {
+            alloc,
+            config,
+            tree,
+            contexts,
+            known,
+            mut groups,
+            processes,
+            mut ends,
+        } = self;
+        ends.insert(0, ProcessEnd::new(p, cause))?;
+        drop_process(&mut groups, p);
+        Ok(Parent {
+            alloc,
+            config,
+            tree,
+            contexts,
+            known,
+            groups,
+            processes,
+            ends,
+        })
+    }
+
+    /// The bundles that are sent, which are counted.
+    pub(crate) fn send_out(
+        &mut self,
+        posts: &[Post],
+    ) -> Result<Seq<(ProcId, DownBundle)>, OutOfMemory>
+        requires { (q : ℕ) → (facts_of self.old).processes.bundles_sent q < 2 ^ 64 - 1 }
         ensures config { OnOk result (self.new.config ≡ self.old.config) }
         ensures facts { OnOk result (facts_of self.new ≡ after_sending (λ f. f) facts_after
-            (length self.old.config.types) (sent_to posts.now) (facts_of self.old)) }
-        ensures sent { IfOk result (λ s. s ≡ bundles_to (sent_to posts.now)
+            (length self.old.config.types) (bundle_parts posts.now) (facts_of self.old)) }
+        ensures sent { IfOk result (λ s. s ≡ bundles_to (bundle_parts posts.now)
             (facts_of self.old).processes.commits_heard (numbers 0 (length self.old.config.types))) }
     {
         let sent = bundles(self.alloc, posts, self.processes.as_slice())?;
@@ -571,8 +549,8 @@ impl Parent {
         Ok(sent)
     }
 
-    // Records the epoch of a commit of process p, which is the one that is due.
-    fn record(&mut self, p: ProcId, e: Epoch)
+    /// Records the epoch of a commit of process p, which is the one that is due.
+    pub(crate) fn record(&mut self, p: ProcId, e: Epoch)
         requires process { p.0 < length self.old.config.types }
         requires due { e.0 ≡ (facts_of self.old).processes.commits_heard p.0 + 1 }
         requires count { (facts_of self.old).processes.commits_heard p.0 < 2 ^ 64 - 1 }
@@ -580,30 +558,5 @@ impl Parent {
         ensures facts { facts_of self.new ≡ facts_after (Counted p.0) (facts_of self.old) }
     {
         record_epoch(p, e, self.processes.as_mut_slice());
-    }
-}
-
-// The other processes of a set, if anything is modified, else none.
-fn others(all: ProcSet, p: ProcId, t: &Transaction) -> ProcSet
-    requires { p.0 < 16 }
-    ensures { (q : ℕ) → q < 16 →
-        has result q ≡ (list_any is_some t.now && (not (q == p.0) && has all q)) }
-{
-    if is_empty(t) {
-        ProcSet::EMPTY
-    } else {
-        all.without(p)
-    }
-}
-
-// The process that is sent something back, if anything is modified, else none.
-fn sender(p: ProcId, t: &Transaction) -> ProcSet
-    requires { p.0 < 16 }
-    ensures { (q : ℕ) → q < 16 → has result q ≡ (list_any is_some t.now && q == p.0) }
-{
-    if is_empty(t) {
-        ProcSet::EMPTY
-    } else {
-        ProcSet::EMPTY.with(p)
     }
 }

@@ -1,8 +1,9 @@
 ghost use Rattle.std.specs.Prelude.{◌≡◌, ℕ, ◌+◌, ◌-◌, ◌^◌, ◌<◌, ◌==◌, ◌&&◌, length, nat_lt};
 ghost use Rattle.parent_core.specs.Parent.{counted_of};
-ghost use Rattle.parent_core.specs.Sending.{counted_after, heard_after, is_sent_to};
+ghost use Rattle.parent_core.specs.Posts.{is_sent_to};
+ghost use Rattle.parent_core.specs.Sending.{counted_after, heard_after};
 
-use crate::sending::Posts;
+use crate::posts::{Post, is_sent_to};
 use epochs::Heard;
 use fission_ids::{Epoch, ProcId};
 use std::marker::Model;
@@ -76,7 +77,7 @@ impl Process {
 }
 
 /// Counts the bundle of each process that is sent one.
-pub(crate) fn count_sent(posts: &Posts, processes: &mut [Process])
+pub(crate) fn count_sent(posts: &[Post], processes: &mut [Process])
     requires few { length processes.old < 17 }
     requires counts { (p : ℕ) → (counted_of p processes.old).sent < 2 ^ 64 - 1 }
     ensures len { length processes.new ≡ length processes.old }
@@ -85,7 +86,7 @@ pub(crate) fn count_sent(posts: &Posts, processes: &mut [Process])
         (counted_of p processes.old) }
 {
     for i in 0..processes.len() {
-        processes[i].count_if(posts.are_for(ProcId(i as u8)));
+        processes[i].count_if(is_sent_to(posts, ProcId(i as u8)));
     }
 }
 
@@ -101,13 +102,12 @@ pub(crate) fn record_epoch(p: ProcId, e: Epoch, processes: &mut [Process])
     processes[p.0 as usize].hear(e);
 }
 
-/// The epoch that is due of a commit of process p.
-pub(crate) fn due(p: ProcId, processes: &[Process]) -> Epoch
-    requires process { p.0 < length processes.now }
-    requires count { (counted_of p.0 processes.now).heard < 2 ^ 64 - 1 }
-    ensures { result.0 ≡ (counted_of p.0 processes.now).heard + 1 }
+/// The epoch that was heard last of process p.
+pub(crate) fn epoch_heard(p: ProcId, processes: &[Process]) -> Epoch
+    requires { p.0 < length processes.now }
+    ensures { result.0 ≡ (counted_of p.0 processes.now).heard }
 {
-    Epoch(processes[p.0 as usize].epoch().0 + 1)
+    processes[p.0 as usize].epoch()
 }
 
 /// How many bundles were sent to process p.

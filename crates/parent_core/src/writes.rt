@@ -1,22 +1,17 @@
-ghost use Rattle.std.specs.Prelude.{◌≡◌, ◌&&◌, ◌∷◌, [], not, map, filter, is_some, unwrap_or, false, IfOk};
-ghost use Rattle.std.specs.Prelude.{if◌then◌else◌, MatchOption, None, Some};
+ghost use Rattle.std.specs.Prelude.{◌≡◌, ◌&&◌, not, map, filter, is_some, IfOk};
+ghost use Rattle.std.specs.Prelude.{if◌then◌else◌, None, Some};
 ghost use Rattle.std.specs.List.{list_any};
 ghost use Rattle.field_table.specs.declared.field.Field.{Field};
-ghost use Rattle.field_table.specs.declared.value.Value.TheVariants.{Flag};
 ghost use Rattle.field_table.specs.Field.{fields as all_fields};
 ghost use Rattle.field_table.specs.FieldSet.{has, set_of};
 ghost use Rattle.field_table.specs.Table.{value_in};
 ghost use Rattle.transaction.specs.Transaction.{new_value};
 ghost use Rattle.field_rules.specs.RuleBounds.{bounds_of};
-ghost use Rattle.field_rules.specs.Rules.{is_denied};
-ghost use Rattle.wire_msgs.specs.declared.answer.Answer.TheVariants.{Parts};
 ghost use Rattle.wire_msgs.specs.declared.note.FieldMark.TheVariants.{Applied, Reverted};
 ghost use Rattle.wire_msgs.specs.declared.note.PartNote.TheVariants.{Commit as CommitNote};
 ghost use Rattle.protocol.specs.Hear.{denial as denial_of, is_reverted, mark_of};
-ghost use Rattle.wire_msgs.specs.declared.part.UpPart.TheVariants.{Commit};
 ghost use Rattle.protocol.specs.ParentActs.{denial_refused};
-ghost use Rattle.parent_core.specs.Faults.{commit_of};
-ghost use Rattle.parent_core.specs.Writes.{IsOneCommit, denied_from, denied_in_write, is_denied_from};
+ghost use Rattle.parent_core.specs.Writes.{denied_from, denied_in_write, is_denied_from};
 ghost use Rattle.parent_core.specs.Writes.{is_reverted_in, notes_with};
 
 use field_rules::{Ask, Rules, denied};
@@ -24,44 +19,23 @@ use field_table::{Field, FieldSet, Fields, Verdict};
 use fission_ids::{ContextId, Duplicate, OutOfMemory, ProcId, Seq};
 use std::alloc::Global;
 use transaction::Transaction;
-use wire_msgs::{Answer, EndCause, FieldMark, FieldNote, PartNote, Refusal, UpPart};
+use wire_msgs::{EndCause, FieldMark, FieldNote, PartNote, Refusal};
 
-/// The context and the new values of the commit that parts are. None where they aren't one commit alone.
-pub(crate) fn commit_of(parts: &[UpPart]) -> Option<(ContextId, &Transaction)>
-    ensures { MatchOption result (commit_of parts.now ≡ None)
-        (λ c. Some (c.0, c.1.now) ≡ commit_of parts.now) }
-{
-    match parts {
-        [UpPart::Commit { context, change }] => Some((*context, change.get())),
-        _ => None,
-    }
-}
-
-/// The context and the new values of the one commit of a bundle.
-pub(crate) fn commit_in(parts: Seq<UpPart>) -> (ContextId, Transaction)
-    requires { IsOneCommit parts }
-    ensures { parts ≡ Commit result.0 result.1 ∷ [] }
-{
-    match parts.into_vec().pop() {
-        Some(UpPart::Commit { context, change }) => (context, change.into_inner()),
-        Some(_) => unreachable!(),
-        None => unreachable!(),
-    }
-}
-
-/// Which modified fields of a write of process p are reverted, where it owns the context or not.
+/// Which modified fields of a write of process p are reverted, where the context is top-level or not, and the
+/// process owns it or not.
 pub(crate) fn reverted_fields(
     rules: &Rules,
     p: ProcId,
     x: ContextId,
+    top: bool,
     owns: bool,
     t: &Transaction,
 ) -> FieldSet
-    ensures { result ≡ set_of (is_reverted_in (bounds_of rules.now) p.0 x owns t.now) }
+    ensures { result ≡ set_of (is_reverted_in (bounds_of rules.now) p.0 x top owns t.now) }
 {
     let mut reverted = FieldSet::EMPTY;
     for f in Field::ALL {
-        if is_reverted_in(rules, p, x, owns, t, f) {
+        if is_reverted_in(rules, p, x, top, owns, t, f) {
             reverted = reverted.with(f);
         }
     }
@@ -73,11 +47,12 @@ fn is_reverted_in(
     rules: &Rules,
     p: ProcId,
     x: ContextId,
+    top: bool,
     owns: bool,
     t: &Transaction,
     f: Field,
 ) -> bool
-    ensures { result ≡ is_reverted_in (bounds_of rules.now) p.0 x owns t.now f }
+    ensures { result ≡ is_reverted_in (bounds_of rules.now) p.0 x top owns t.now f }
 {
     match t.value(f) {
         None => false,
@@ -85,7 +60,7 @@ fn is_reverted_in(
             field: f,
             value,
             context: x,
-            top: true,
+            top,
             window: None,
             from: Some(p),
             owner_is_sender: owns,
@@ -102,18 +77,16 @@ fn is_allowed(verdict: Verdict) -> bool
     }
 }
 
-/// The answer to a commit of a context of which these fields are reverted.
-pub(crate) fn judged_answer(
+/// What becomes of a commit of a context of which these fields are reverted.
+pub(crate) fn judged_note(
     alloc: Global,
     x: ContextId,
     t: &Transaction,
     reverted: FieldSet,
-) -> Result<Answer, OutOfMemory>
-    ensures { IfOk result (λ a. a ≡ Parts (CommitNote x (notes_with reverted t.now) ∷ [])) }
+) -> Result<PartNote, OutOfMemory>
+    ensures { IfOk result (λ n. n ≡ CommitNote x (notes_with reverted t.now)) }
 {
-    let fields = field_notes(alloc, t, reverted, &Field::ALL)?;
-    let note = PartNote::Commit(x, fields);
-    Ok(Answer::Parts(Seq::from_vec(vec![in alloc; note]?)))
+    Ok(PartNote::Commit(x, field_notes(alloc, t, reverted, &Field::ALL)?))
 }
 
 // What becomes of those of these fields that a commit modifies.
@@ -183,11 +156,11 @@ pub(crate) fn is_empty(t: &Transaction) -> bool
     t.modified() == FieldSet::EMPTY
 }
 
-/// Why the parent may not write so to a top-level context, if it may not.
-pub(crate) fn denial(x: ContextId, t: &Transaction) -> Option<Refusal>
-    ensures { result ≡ denial_refused (denied_in_write x t.now) }
+/// Why the parent may not write so to a context, which is top-level or a frame, if it may not.
+pub(crate) fn denial(x: ContextId, top: bool, t: &Transaction) -> Option<Refusal>
+    ensures { result ≡ denial_refused (denied_in_write x top t.now) }
 {
-    let denied = denied_fields(None, x, false, t);
+    let denied = denied_fields(None, x, top, false, t);
     if denied == FieldSet::EMPTY {
         None
     } else {
@@ -195,11 +168,18 @@ pub(crate) fn denial(x: ContextId, t: &Transaction) -> Option<Refusal>
     }
 }
 
-/// Why a commit of process p to a top-level context, which it owns or not, ends it, if it may not write so.
-pub(crate) fn denial_heard(p: ProcId, x: ContextId, owns: bool, t: &Transaction) -> Option<EndCause>
-    ensures { result ≡ denial_of x (denied_from (Some (record { 0 = p.0 })) x owns t.now) }
+/// Why a commit of process p to a context, which is top-level or a frame, and which it owns or not, ends it,
+/// if it may not write so.
+pub(crate) fn denial_heard(
+    p: ProcId,
+    x: ContextId,
+    top: bool,
+    owns: bool,
+    t: &Transaction,
+) -> Option<EndCause>
+    ensures { result ≡ denial_of x (denied_from (Some (record { 0 = p.0 })) x top owns t.now) }
 {
-    let fields = denied_fields(Some(p), x, owns, t);
+    let fields = denied_fields(Some(p), x, top, owns, t);
     if fields == FieldSet::EMPTY {
         None
     } else {
@@ -208,12 +188,19 @@ pub(crate) fn denial_heard(p: ProcId, x: ContextId, owns: bool, t: &Transaction)
 }
 
 // The modified fields that may not be written so, by a process or by the parent.
-fn denied_fields(from: Option<ProcId>, x: ContextId, owns: bool, t: &Transaction) -> FieldSet
-    ensures { result ≡ set_of (λ f. is_some (new_value t.now f) && is_denied_from from x owns t.now f) }
+fn denied_fields(
+    from: Option<ProcId>,
+    x: ContextId,
+    top: bool,
+    owns: bool,
+    t: &Transaction,
+) -> FieldSet
+    ensures { result ≡ set_of
+        (λ f. is_some (new_value t.now f) && is_denied_from from x top owns t.now f) }
 {
     let mut denied = FieldSet::EMPTY;
     for f in Field::ALL {
-        if is_denied_in(from, x, owns, t, f) {
+        if is_denied_in(from, x, top, owns, t, f) {
             denied = denied.with(f);
         }
     }
@@ -221,8 +208,15 @@ fn denied_fields(from: Option<ProcId>, x: ContextId, owns: bool, t: &Transaction
 }
 
 // Whether a field is modified, and may not be written so.
-fn is_denied_in(from: Option<ProcId>, x: ContextId, owns: bool, t: &Transaction, f: Field) -> bool
-    ensures { result ≡ (is_some (new_value t.now f) && is_denied_from from x owns t.now f) }
+fn is_denied_in(
+    from: Option<ProcId>,
+    x: ContextId,
+    top: bool,
+    owns: bool,
+    t: &Transaction,
+    f: Field,
+) -> bool
+    ensures { result ≡ (is_some (new_value t.now f) && is_denied_from from x top owns t.now f) }
 {
     match t.value(f) {
         None => false,
@@ -230,7 +224,7 @@ fn is_denied_in(from: Option<ProcId>, x: ContextId, owns: bool, t: &Transaction,
             field: f,
             value,
             context: x,
-            top: true,
+            top,
             window: None,
             from,
             owner_is_sender: owns,

@@ -1,6 +1,7 @@
 -- What a step comes to over the lists that the code has is what the model says of it.
 use Rattle.std.proofs.Common.{◌≡◌, ◌≢◌, ℕ, suc, ◌+◌, ◌<◌, ◌==◌, Bool, true, false, if◌then◌else◌, List, [], ◌∷◌, ◌++◌, length, map, drop, set, Option, None, Some, unwrap_or, refl, sym, ap, ap₂, ◌∙◌, arith, eq-eqb, ne_eqb, eqb-true}
 use Rattle.std.specs.List.{AllByRecursion}
+use Rattle.std.specs.Prelude.{⊤}
 use Rattle.fission_ids.specs.declared.context.ContextId.{ContextId}
 use Rattle.field_table.specs.declared.field.Field.{Field}
 use Rattle.transaction.specs.Transaction.{Changes}
@@ -35,7 +36,6 @@ use Rattle.protocol.proofs.Readings.{Agrees, Meets, own_set_agrees, take_agrees,
 use Rattle.traces.specs.Event.{Bundle}
 use Rattle.traces.specs.Event.Event.{Writes, Takes}
 use Rattle.traces.specs.Links.{writes_waiting, bundles_waiting, takes, bundles_sent}
-use Rattle.content_core.specs.Moved.{IsTaken}
 use Rattle.parent_core.specs.Ruled.{bundles_of}
 use Rattle.model.specs.Next.{allowed_first}
 use Rattle.model.specs.Moments.{Moment, Written, ProcessEvent, events_of, facts_now, seen_now, for_one, only_answer, written, ends, told, sent_to, act_moment, taken_moment, raw_moment, parent_moment, heard_moment, bundle_moment, heard as heard_events}
@@ -204,19 +204,25 @@ takes_one c ms p d rest plain looked lt fine waits e1 e2 is =
     (downs_less c ms m p (written sent ++ Takes d ∷ []) (contents rest) lt events
     (down_behind sent (Takes d) (events_of p ms) ∙ down_written sent (Takes d ∷ events_of p ms) ∙ ap contents (down_taken d rest (events_of p ms) waits)))
 
+-- so far what waits is one commit, or tells the process to stop
+abbrev pub IsAlone : List DownPart → Type 0
+IsAlone (Commit x t ∷ []) = ⊤
+IsAlone (Kill ∷ []) = ⊤
+IsAlone _ = ⊥
+
 -- a commit and a kill are taken alike in both readings
-taken_alike : (c : Config) (ms : List Moment) (p : ℕ) (b : DownBundle) → IsTaken b.parts
+taken_alike : (c : Config) (ms : List Moment) (p : ℕ) (b : DownBundle) → IsAlone b.parts
     → Agrees (seen_with c p ms) (bundle_step (seen_with c p ms) (λ d did. d ∷ did) p b []) (bundle_step (λ s. s) (seen_after p) p b (seen_now c p ms))
 taken_alike c ms p b is = by b.parts refl is
   where
-    by : (parts : List DownPart) → b.parts ≡ parts → IsTaken parts
+    by : (parts : List DownPart) → b.parts ≡ parts → IsAlone parts
         → Agrees (seen_with c p ms) (bundle_step (seen_with c p ms) (λ d did. d ∷ did) p b []) (bundle_step (λ s. s) (seen_after p) p b (seen_now c p ms))
     by (Commit x t ∷ []) e is = take_agrees p (seen_with c p ms) (λ d did. d ∷ did) (reads_did c p ms) b x t [] e
     by (Kill ∷ []) e is = kill_agrees p (seen_with c p ms) (λ d did. d ∷ did) (reads_did c p ms) b [] e
     by _ e is = absurd is
 
 pub own_take : (c : Config) (ms : List Moment) (p : ℕ) → p < length c.types → Behind (events_of p ms)
-    → ((d : Bundle DownBundle) (rest : List (Bundle DownBundle)) → bundles_waiting (events_of p ms) ≡ d ∷ rest → IsTaken d.content.parts)
+    → ((d : Bundle DownBundle) (rest : List (Bundle DownBundle)) → bundles_waiting (events_of p ms) ≡ d ∷ rest → IsAlone d.content.parts)
     → (ds : List (Bundle DownBundle)) → bundles_waiting (events_of p ms) ≡ ds
     → taken p (contents ds) (state c ms) ≡ record { answer = (taken_moment c p ms ds).answer; state = state c (taken_moment c p ms ds ∷ ms) }
 own_take c ms p lt fine first [] waits = refl

@@ -28,13 +28,13 @@ put_back : (contents : List (Option Kept)) (p : ℕ) (taken o : Option Kept) (co
     → MovedBy core step moved → sides_of (set (set contents p taken) p (Some moved.core)) ≡ sides_after p step (sides_of contents)
 put_back contents p taken o core step moved lt at is by =
     let before : side_at p (sides_of contents) ≡ side_of core = side_is contents p o core lt at is in
-    let same : side_of moved.core ≡ record (side_of core) { seen = step.kept } = side_same by.process by.tabs by.seen in
+    let same : side_of moved.core ≡ record (side_of core) { seen = step.kept } = side_same by.process by.seen in
     ap sides_of (set-set contents p taken (Some moved.core))
     ∙ map-set (option_map side_of) contents p (Some moved.core)
     ∙ ap (λ (s : Side). set (sides_of contents) p (Some s)) (same ∙ ap (λ (s : Side). record s { seen = step.kept }) (sym before))
   where
-    side_same : moved.core.process ≡ core.process → moved.core.tabs ≡ core.tabs → seen_of moved.core ≡ step.kept → side_of moved.core ≡ record (side_of core) { seen = step.kept }
-    side_same e1 e2 e3 = cc
+    side_same : moved.core.process ≡ core.process → seen_of moved.core ≡ step.kept → side_of moved.core ≡ record (side_of core) { seen = step.kept }
+    side_same e1 e2 = cc
 
 pub put_back_acted : (contents : List (Option Kept)) (p : ℕ) (taken o : Option Kept) (core : Kept) (action : Action) (moved : Moved) → p < length contents → o ≡ get_or contents p o → o ≡ Some core
     → MovedBy core (action_step (λ s. s) (seen_after core.process) core.process action (seen_of core)) moved

@@ -6,7 +6,13 @@ use Rattle.std.proofs.lemmas.List.{length-map, get_or-map}
 use Rattle.wire_msgs.specs.declared.bundle.DownBundle.{DownBundle}
 use Rattle.wire_msgs.specs.declared.bundle.UpBundle.{UpBundle}
 use Rattle.wire_msgs.specs.declared.config.Config.{Config}
+use Rattle.wire_msgs.specs.declared.part.DownPart.{DownPart}
+use Rattle.wire_msgs.specs.declared.part.DownPart.TheVariants.{Commit, Kill}
+use Rattle.wire_msgs.specs.declared.part.UpPart.{UpPart}
+use Rattle.wire_msgs.specs.declared.part.UpPart.TheVariants as ups
 use Rattle.wire_msgs.specs.declared.config.StartTab.{StartTab}
+use Rattle.protocol.specs.Commits.{AreCommits}
+use Rattle.protocol.specs.Played.{ArePlayed}
 use Rattle.protocol.specs.Questions.{Facts}
 use Rattle.protocol.specs.Start.{numbers}
 use Rattle.content_core.specs.Content.{Kept as ContentKept}
@@ -26,7 +32,7 @@ use Rattle.world.specs.Stands.{side, state_of, Stands, most_entries}
 use Rattle.world.specs.Ready.{IsReady}
 use Rattle.world.proofs.Lists.{length-numbers, get_or-map-numbers}
 use Rattle.world.proofs.Waits.{contents as contents_of}
-use Rattle.world.proofs.Comes.{at_links}
+use Rattle.world.proofs.Comes.{at_links, IsAlone}
 use Rattle.world.proofs.Few.{Few, few_counts}
 use Rattle.world.proofs.Shown.{there_is}
 
@@ -37,20 +43,33 @@ length-by_numbers : {A : Type 0} (f : ℕ → A) (n : ℕ) → length (map f (nu
 length-by_numbers f n = length-map (numbers 0 n) f ∙ length-numbers 0 n
 
 -- what waits first is a commit, or tells the process to stop
-pub first_taken : (tabs : List StartTab) (p : ℕ) (over : Bool) (ds : List (Bundle DownBundle)) → AreTold tabs p over ds
-    → (d : Bundle DownBundle) (rest : List (Bundle DownBundle)) → ds ≡ d ∷ rest → IsTaken d.content.parts
-first_taken tabs p over ds all d rest e = by (subst (AreTold tabs p over) e all)
+pub first_alone : (tabs : List StartTab) (p : ℕ) (over : Bool) (ds : List (Bundle DownBundle)) → AreTold tabs p over ds
+    → (d : Bundle DownBundle) (rest : List (Bundle DownBundle)) → ds ≡ d ∷ rest → IsAlone d.content.parts
+first_alone tabs p over ds all d rest e = by (subst (AreTold tabs p over) e all)
   where
-    by : (IsCommit tabs p d.content.parts × AreTold tabs p over rest) ⊎ IsLast over d rest → IsTaken d.content.parts
-    by (inl cs) = subst IsTaken (sym cs.0.is) tt
-    by (inr last) = subst IsTaken (sym last.is) tt
+    by : (IsCommit tabs p d.content.parts × AreTold tabs p over rest) ⊎ IsLast over d rest → IsAlone d.content.parts
+    by (inl cs) = subst IsAlone (sym cs.0.is) tt
+    by (inr last) = subst IsAlone (sym last.is) tt
+
+-- so that it may be taken
+alone_taken : (parts : List DownPart) → IsAlone parts → IsTaken parts
+alone_taken (Commit x t ∷ []) is = (tt, tt)
+alone_taken (Kill ∷ []) is = (tt, tt)
+alone_taken _ is = absurd is
+
+-- what waits first to be heard is commits, which the parent hears
+commits_played : (parts : List UpPart) → AreCommits parts → ArePlayed parts
+commits_played [] is = tt
+commits_played (ups.Commit x t ∷ []) is = (tt, tt)
+commits_played (ups.Commit x t ∷ a ∷ parts) is = (tt, commits_played (a ∷ parts) is)
+commits_played (a ∷ parts) is = absurd is
 
 first_bundle : (tabs : List StartTab) (p : ℕ) (over : Bool) (ds : List (Bundle DownBundle)) → AreTold tabs p over ds
     → (b : DownBundle) (bs : List DownBundle) → contents_of ds ≡ b ∷ bs → IsTaken b.parts
 first_bundle tabs p over [] all b bs e = cc
 first_bundle tabs p over (d ∷ ds) all b bs e =
     let same : d.content ≡ b = cc in
-    subst (λ (x : DownBundle). IsTaken x.parts) same (first_taken tabs p over (d ∷ ds) all d ds refl)
+    subst (λ (x : DownBundle). IsTaken x.parts) same (alone_taken d.content.parts (first_alone tabs p over (d ∷ ds) all d ds refl))
 
 module _ (before : ParentKept) (contents : List (Option ContentKept)) (ups : List (List UpBundle)) (downs : List (List DownBundle)) (j : Journal)
     (stands : Stands before.config j (state_of before contents ups downs)) (room : length j < most_entries) where
@@ -110,10 +129,10 @@ module _ (before : ParentKept) (contents : List (Option ContentKept)) (ups : Lis
           ap (λ (f : Facts). f.processes.bundles_sent p) facts_are ∙ (counts_tie run p stands.fits lt).sent in
           omega (arith, e, (few p).send, room);
     };
-    commits = λ p b bs lt waits.
+    played = λ p b bs lt waits.
         let up : up_waiting p (moments_of before.config j) ≡ b ∷ bs = sym (ap (waiting_at p) ups_are ∙ at_links (λ q. up_waiting q (moments_of before.config j)) (length before.config.types) p lt) ∙ waits in
         let all : AllByRecursion HaveCommits (b ∷ bs) = subst (AllByRecursion HaveCommits) up (ups_wait run p stands.fits lt) in
-        all.0;
+        commits_played b.parts all.0;
     taken = λ p b bs lt waits.
         first_bundle before.config.tabs p (is_ended (events_of p (moments_of before.config j))) (bundles_waiting (events_of p (moments_of before.config j))) (downs_wait run p stands.fits lt) b bs
         (sym (ap (waiting_at p) downs_are ∙ at_links (λ q. down_waiting q (moments_of before.config j)) (length before.config.types) p lt) ∙ waits);

@@ -20,17 +20,17 @@ use Rattle.world.specs.Stands.{state, state_of, Stands}
 use Rattle.world.proofs.Lists.{map-numbers_more}
 
 abbrev pub side_at_start : List StartTab → ℕ → Option Side
-side_at_start tabs p = Some (record { process = p; tabs = tabs; seen = seen_at_start tabs p })
+side_at_start tabs p = Some (record { process = p; seen = seen_at_start tabs p })
 
 -- one process more
 pub one_more : (contents : List (Option Kept)) (k : Kept) (tabs : List StartTab) (p : ℕ) → sides_of contents ≡ map (side_at_start tabs) (numbers 0 p)
-    → k.process ≡ p → k.tabs ≡ tabs → seen_of k ≡ seen_at_start tabs p → sides_of (contents ++ Some k ∷ []) ≡ map (side_at_start tabs) (numbers 0 (p + 1))
-one_more contents k tabs p so_far e1 e2 e3 =
+    → k.process ≡ p → seen_of k ≡ seen_at_start tabs p → sides_of (contents ++ Some k ∷ []) ≡ map (side_at_start tabs) (numbers 0 (p + 1))
+one_more contents k tabs p so_far e1 e2 =
     map-append (option_map side_of) contents (Some k ∷ [])
-    ∙ map-numbers_more (side_at_start tabs) p (sides_of contents) (Some (side_of k)) so_far (same e1 e2 e3)
+    ∙ map-numbers_more (side_at_start tabs) p (sides_of contents) (Some (side_of k)) so_far (same e1 e2)
   where
-    same : k.process ≡ p → k.tabs ≡ tabs → seen_of k ≡ seen_at_start tabs p → Some (side_of k) ≡ side_at_start tabs p
-    same e1 e2 e3 = cc
+    same : k.process ≡ p → seen_of k ≡ seen_at_start tabs p → Some (side_of k) ≡ side_at_start tabs p
+    same e1 e2 = cc
 
 state_at_start : (c : Config) → state c [] ≡ record {
   facts = facts_at_start c.tabs;

@@ -23,7 +23,7 @@ use Rattle.world.specs.Came.{State, Came, came, acted, taken, raw_sent, heard}
 use Rattle.world.specs.Stands.{state, Stands, most_entries}
 use Rattle.world.proofs.Waits.{Behind}
 use Rattle.world.proofs.Comes.{at_links, came_running, own_set, own_take, raw_bundle, parent_acts, parent_hear}
-use Rattle.world.proofs.Readiness.{first_taken}
+use Rattle.world.proofs.Readiness.{first_alone}
 
 -- ---- a step
 
@@ -50,7 +50,7 @@ came_on b r run (Take p) fit =
     let t : Tied_behind r.config p.0 ms = ties r run p.0 fit in
     came_running r.config ms p.0 fit (taken p.0 _ (state r.config ms)) (taken_moment r.config p.0 ms (bundles_waiting (events_of p.0 ms)))
     (ap (λ bs. taken p.0 bs (state r.config ms)) (at_links (λ q. down_waiting q ms) (length r.config.types) p.0 fit)
-    ∙ own_take r.config ms p.0 fit (behind_of r run p.0 fit) (first_taken r.config.tabs p.0 (is_ended (events_of p.0 ms)) (bundles_waiting (events_of p.0 ms)) t.links.told)
+    ∙ own_take r.config ms p.0 fit (behind_of r run p.0 fit) (first_alone r.config.tabs p.0 (is_ended (events_of p.0 ms)) (bundles_waiting (events_of p.0 ms)) t.links.told)
     (bundles_waiting (events_of p.0 ms)) refl)
 came_on b r run (Raw p bundle) fit =
     let ms : List Moment = moments_of r.config r.journal in

@@ -3,7 +3,7 @@ use Rattle.std.specs.Prelude.{◌≡◌, ℕ, ◌-◌, ◌^◌, ◌<◌, List, �
 use Rattle.std.specs.Prelude.{slice_index_or}
 use Rattle.wire_msgs.specs.declared.bundle.DownBundle.{DownBundle}
 use Rattle.wire_msgs.specs.declared.bundle.UpBundle.{UpBundle}
-use Rattle.protocol.specs.Commits.{AreCommits}
+use Rattle.protocol.specs.Played.{ArePlayed}
 use Rattle.content_core.specs.Content.{Kept as ContentKept}
 use Rattle.content_core.specs.Moved.{IsTaken}
 use Rattle.content_core.specs.Moved as content
@@ -25,8 +25,8 @@ pub record IsReady (n : ℕ) (before : ParentKept) (contents : List (Option Cont
   pub there : (p : ℕ) → p < n → IsSome (slice_index_or contents p None)
   pub counts : (p : ℕ) (k : ContentKept) → p < n → slice_index_or contents p None ≡ Some k → content.Counts k
   pub parent_counts : CountsWithin n before
-  pub commits : (p : ℕ) (b : UpBundle) (bs : List UpBundle) → p < n → waiting_at p ups ≡ b ∷ bs
-      → AreCommits b.parts
+  pub played : (p : ℕ) (b : UpBundle) (bs : List UpBundle) → p < n → waiting_at p ups ≡ b ∷ bs
+      → ArePlayed b.parts
   pub taken : (p : ℕ) (b : DownBundle) (bs : List DownBundle) → p < n → waiting_at p downs ≡ b ∷ bs
       → IsTaken b.parts
 

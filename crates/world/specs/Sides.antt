@@ -6,7 +6,6 @@ use Rattle.fission_ids.specs.declared.process.ProcId.{ProcId}
 use Rattle.wire_msgs.specs.declared.action.Action.{Action}
 use Rattle.wire_msgs.specs.declared.bundle.DownBundle.{DownBundle}
 use Rattle.wire_msgs.specs.declared.bundle.UpBundle.{UpBundle}
-use Rattle.wire_msgs.specs.declared.config.StartTab.{StartTab}
 use Rattle.protocol.specs.Seen.{Seen}
 use Rattle.protocol.specs.SeenAfter.{seen_after}
 use Rattle.protocol.specs.Start.{seen_at_start}
@@ -16,20 +15,19 @@ use Rattle.content_core.specs.Content.{Kept, seen_of}
 
 -- ---- processes
 
--- a process: its number, the tabs that it began with, and its answers
+-- a process: its number, and its answers
 pub record Side : Type 0 where
   pub process : ℕ
-  pub tabs : List StartTab
   pub seen : Seen
 
 abbrev pub side_of : Kept → Side
-side_of k = record { process = k.process; tabs = k.tabs; seen = seen_of k }
+side_of k = record { process = k.process; seen = seen_of k }
 
 abbrev pub sides_of : List (Option Kept) → List (Option Side)
 sides_of contents = map (option_map side_of) contents
 
 abbrev pub no_side : Side
-no_side = record { process = 0; tabs = []; seen = seen_at_start [] 0 }
+no_side = record { process = 0; seen = seen_at_start [] 0 }
 
 abbrev pub side_at : ℕ → List (Option Side) → Side
 side_at p sides = unwrap_or (slice_index_or sides p None) no_side

@@ -17,7 +17,7 @@ use Rattle.world.specs.declared.sides.Sides.{Sides}
 
 -- process p behind these moments
 abbrev pub side : Config → List Moment → ℕ → Side
-side c ms p = record { process = p; tabs = c.tabs; seen = seen_now c p ms }
+side c ms p = record { process = p; seen = seen_now c p ms }
 
 -- all that there is behind these moments
 abbrev pub state : Config → List Moment → State

@@ -14,7 +14,7 @@ use wire_msgs::Config;
 pub(crate) fn start_sides(alloc: Global, config: &Config) -> Result<Sides, OutOfMemory>
     requires { ConfigFits config.now }
     ensures contents { IfOk result (λ s. sides_of s.contents.items ≡ map
-        (λ p. Some (record { process = p; tabs = config.now.tabs; seen = seen_at_start config.now.tabs p }))
+        (λ p. Some (record { process = p; seen = seen_at_start config.now.tabs p }))
         (numbers 0 (length config.now.types))) }
     ensures ups { IfOk result (λ s. s.ups.items ≡ map (λ p. []) (numbers 0 (length config.now.types))) }
     ensures downs { IfOk result (λ s. s.downs.items ≡ map (λ p. []) (numbers 0 (length config.now.types))) }
@@ -31,7 +31,7 @@ pub(crate) fn start_sides(alloc: Global, config: &Config) -> Result<Sides, OutOf
 fn start_contents(alloc: Global, config: &Config) -> Result<Vec<Option<Content>>, OutOfMemory>
     requires { ConfigFits config.now }
     ensures { IfOk result (λ contents. sides_of contents.items ≡ map
-        (λ p. Some (record { process = p; tabs = config.now.tabs; seen = seen_at_start config.now.tabs p }))
+        (λ p. Some (record { process = p; seen = seen_at_start config.now.tabs p }))
         (numbers 0 (length config.now.types))) }
 {
     let count = config.types.len();

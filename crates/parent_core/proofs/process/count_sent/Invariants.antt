@@ -1,6 +1,7 @@
 use Rattle.std.proofs.Common.{◌≡◌, ℕ, length, nat_lt, ◌&&◌}
 use Rattle.parent_core.specs.Parent.{counted_of}
-use Rattle.parent_core.specs.Sending.{counted_after, is_sent_to}
+use Rattle.parent_core.specs.Posts.{is_sent_to}
+use Rattle.parent_core.specs.Sending.{counted_after}
 use Rattle.parent_core.proofs.process.count_sent.Given as goal
 
 abbrev pub invariant-loop-i : goal.invariant-loop-i

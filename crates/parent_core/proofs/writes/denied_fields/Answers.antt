@@ -8,11 +8,11 @@ use Rattle.parent_core.proofs.writes.denied_fields.Goals as goal
 use Rattle.parent_core.proofs.writes.denied_fields.Goals.{then-is_denied_in, else-is_denied_in}
 
 pub loop-f-init : goal.loop-f-init
-loop-f-init c = none_of (λ f. is_some (new_value c.args.t.now f) && is_denied_from c.args.from c.args.x c.args.owns c.args.t.now f)
+loop-f-init c = none_of (λ f. is_some (new_value c.args.t.now f) && is_denied_from c.args.from c.args.x c.args.top c.args.owns c.args.t.now f)
 
 pub loop-f-preserved : goal.loop-f-preserved
 loop-f-preserved c =
-    let p : Field → Bool = λ f. is_some (new_value c.args.t.now f) && is_denied_from c.args.from c.args.x c.args.owns c.args.t.now f in
+    let p : Field → Bool = λ f. is_some (new_value c.args.t.now f) && is_denied_from c.args.from c.args.x c.args.top c.args.owns c.args.t.now f in
     elim c.if-is_denied_in.branch [
       | then-is_denied_in w ↦ some_more_in p c.loop-f.f-index _ _ _ c.loop-f-test.true c.loop-f.invariant (sym c.is_denied_in.ensures ∙ w.if-is_denied_in.true) (w.denied-is ∙ w.with-denied.ensures.whole)
       | else-is_denied_in w ↦ some_more_out p c.loop-f.f-index _ _ _ c.loop-f-test.true c.loop-f.invariant (sym c.is_denied_in.ensures ∙ w.if-is_denied_in.false) w.denied-is
@@ -21,4 +21,4 @@ loop-f-preserved c =
 pub returns : goal.returns
 returns c =
     c.loop-f.invariant
-    ∙ all_of (λ f. is_some (new_value c.args.t.now f) && is_denied_from c.args.from c.args.x c.args.owns c.args.t.now f) c.loop-f.f-index c.loop-f-test.false
+    ∙ all_of (λ f. is_some (new_value c.args.t.now f) && is_denied_from c.args.from c.args.x c.args.top c.args.owns c.args.t.now f) c.loop-f.f-index c.loop-f-test.false

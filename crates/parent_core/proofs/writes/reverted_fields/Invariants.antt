@@ -5,4 +5,4 @@ use Rattle.parent_core.specs.Writes.{is_reverted_in}
 use Rattle.parent_core.proofs.writes.reverted_fields.Given as goal
 
 abbrev pub invariant-loop-f : goal.invariant-loop-f
-invariant-loop-f g l = l.reverted ≡ some_of (is_reverted_in (bounds_of l.rules) l.p.0 l.x l.owns l.t) l.f-index
+invariant-loop-f g l = l.reverted ≡ some_of (is_reverted_in (bounds_of l.rules) l.p.0 l.x l.top l.owns l.t) l.f-index

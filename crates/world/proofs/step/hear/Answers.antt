@@ -9,5 +9,5 @@ hear-requires-clause-counts g c = all_counts c.args.parent c.counts_each_process
 pub hear-requires-clause-parts : goal.hear-requires-clause-parts
 hear-requires-clause-parts g c =
     let within : c.args.p.0 < length c.args.sides.now.ups.items = subst (λ n. c.args.p.0 < n) (sym c.requires.ready.ups_len) c.requires.process in
-    c.requires.ready.commits c.args.p.0 c.in-Some.bundle c.take.new.self c.requires.process
+    c.requires.ready.played c.args.p.0 c.in-Some.bundle c.take.new.self c.requires.process
     (any_default c.args.sides.now.ups.items c.args.p.0 [] c.index_mut.result.now within ∙ sym c.index_mut.ensures.value ∙ c.in-Some.ensures)

@@ -1,5 +1,6 @@
-use Rattle.parent_core.proofs.Rulings.{set_absent}
+use Rattle.wire_msgs.specs.declared.action.ParentAction.TheVariants.{Set}
+use Rattle.parent_core.proofs.Actions.{act_refused}
 use Rattle.parent_core.proofs.parent.Parent.set.Goals as goal
 
-pub returns-in-None : goal.returns-in-None
-returns-in-None c = set_absent c.args.self c.args.x c.args.t c.refuse.result c.in-None.ensures c.refuse.ensures
+pub returns-in-Some : goal.returns-in-Some
+returns-in-Some c = act_refused c.args.self (Set c.args.x c.args.t) c.in-Some.why c.refuse.result c.in-Some.ensures c.refuse.ensures

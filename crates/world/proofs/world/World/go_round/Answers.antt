@@ -1,8 +1,15 @@
-use Rattle.std.proofs.Common.{arith}
+use Rattle.std.proofs.Common.{ap, arith}
 use Rattle.field_rules.specs.RuleBounds.{bounds_of}
-use Rattle.model.specs.Settling.{round}
-use Rattle.model.proofs.RoundsGoes.{goes_turn, served_next, served_all}
+use Rattle.protocol.specs.Start.{numbers}
+use Rattle.model.specs.Settling.{all_served, round}
+use Rattle.model.proofs.RoundsGoes.{goes_nowhere, goes_turn, served_next, served_all}
 use Rattle.world.proofs.world.World.go_round.Goals as goal
+
+pub loop-p-init : goal.loop-p-init
+loop-p-init g c = record {
+  goes = goes_nowhere c.args.self c.fits.ensures;
+  so_far = ap (λ n. all_served (bounds_of c.args.rules.now) (numbers 0 n) c.args.self) (omega (arith, c.count-count.ensures.count));
+}
 
 pub loop-p-preserved : goal.loop-p-preserved
 loop-p-preserved g c = record {

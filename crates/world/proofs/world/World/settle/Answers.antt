@@ -2,7 +2,7 @@ use Rattle.std.proofs.Common.{◌≡◌, ◌≤◌, true, length, ap, sym, subst
 use Rattle.field_rules.specs.RuleBounds.{bounds_of}
 use Rattle.model.specs.Next.{Run}
 use Rattle.model.specs.View.{base, point, is_honest}
-use Rattle.model.proofs.Rounds.{way_goes_on, way_shortens, way_ends, settling_ends}
+use Rattle.model.proofs.Rounds.{way_begins, way_goes_on, way_shortens, way_ends, settling_ends}
 use Rattle.world.proofs.NeverFalls.{settled_none_fell}
 use Rattle.world.proofs.world.World.settle.Goals as goal
 
@@ -27,6 +27,9 @@ pub returns-then-entries-before-clause-point : goal.returns-then-entries-before-
 returns-then-entries-before-clause-point g c p x f lt own =
     subst (λ (r : Run). point c.args.self.config p x f c.args.self.journal ≤ point r.config p x f r.journal) (sym (returns-then-entries-before-clause-settled g c))
     ((settled_none_fell (bounds_of c.args.rules.now) c.args.self c.fits.ensures).point p x f lt (subst (λ (r : Run). is_honest r.config p r.journal ≡ true) (returns-then-entries-before-clause-settled g c) own))
+
+pub rounds-init : goal.rounds-init
+rounds-init g c = way_begins (bounds_of c.args.rules.now) c.args.self c.fits.ensures
 
 pub rounds-smaller : goal.rounds-smaller
 rounds-smaller g c =

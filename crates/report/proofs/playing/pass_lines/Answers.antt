@@ -1,10 +1,22 @@
-use Rattle.std.proofs.Common.{◌++◌, arith}
+use Rattle.std.proofs.Common.{◌++◌, refl, arith}
 use Rattle.field_rules.specs.RuleBounds.{bounds_of}
 use Rattle.edge.specs.Memory.{written_of}
+use Rattle.edge.proofs.Pieces.{at_start}
 use Rattle.report.specs.Report.{body_text}
 use Rattle.report.proofs.Written.{line_begun, line_passed, lines_passed, run_at_end-next, run_at_end-last, fits-here, fits-next}
 use Rattle.report.proofs.Room.{line_goes_on}
 use Rattle.report.proofs.playing.pass_lines.Goals as goal
+
+pub loop-line-init : goal.loop-line-init
+loop-line-init g c = record {
+  so_far = at_start (g.K.Sink.written c.args.sink.now) (written_of c.args.pieces.now ++ body_text (bounds_of c.args.rules.now) 1 c.args.world c.args.lines.now);
+  run = refl;
+  plays = c.requires.run;
+  room = omega arith;
+  fits = c.requires.lines;
+  number = refl;
+  quiet = refl;
+}
 
 pub pass_line-requires : goal.pass_line-requires
 pass_line-requires g c = record {

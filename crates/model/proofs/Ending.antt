@@ -2,10 +2,8 @@
 use Rattle.std.proofs.Common.{◌≡◌, ℕ, zero, suc, ◌+◌, ◌==◌, Bool, true, false, if◌then◌else◌, Option, None, Some, is_some, List, [], ◌∷◌, ◌++◌, length, map, refl, ap, sym, ◌∙◌, eq-eqb}
 use Rattle.std.specs.List.{list_any}
 use Rattle.std.specs.Option.{option_map_or}
-use Rattle.std.proofs.Math.Path.{fun_ext}
 use Rattle.fission_ids.specs.declared.context.ContextId.{ContextId}
 use Rattle.field_table.specs.declared.field.Field.{Field}
-use Rattle.field_table.specs.declared.value.Value.{Value}
 use Rattle.wire_msgs.specs.declared.answer.Answer.TheVariants.{Ended as EndedBy, Ignored}
 use Rattle.wire_msgs.specs.declared.bundle.DownBundle.{DownBundle}
 use Rattle.wire_msgs.specs.declared.bundle.UpBundle.{UpBundle}
@@ -13,71 +11,81 @@ use Rattle.wire_msgs.specs.declared.cause.EndCause.{EndCause}
 use Rattle.wire_msgs.specs.declared.config.Config.{Config}
 use Rattle.wire_msgs.specs.declared.config.StartTab.{StartTab}
 use Rattle.wire_msgs.specs.declared.part.DownPart.{DownPart}
-use Rattle.protocol.specs.Questions.{Facts, option_any}
+use Rattle.protocol.specs.Questions.{Facts, Contexts, option_any}
 use Rattle.protocol.specs.Sayings.{Saying}
 use Rattle.protocol.specs.Sayings.Saying.{Counted, Ended, Sent}
 use Rattle.protocol.specs.Fold.{or_later, first_fault}
 use Rattle.protocol.specs.Hear.{hear_rules}
-use Rattle.protocol.specs.Bundle.{Ruling, ruling, is_no_bundle, end_parts, is_counted, envelope_fault, end_ruling, parts_ruling, bundle_for}
+use Rattle.protocol.specs.Bundle.{Ruling, is_no_bundle, after_sending, ruling, end_parts, is_counted, envelope_fault, end_ruling, parts_ruling, bundle_for}
 use Rattle.traces.specs.Event.{Bundle}
 use Rattle.traces.specs.Event.Event.{Ends}
 use Rattle.traces.specs.Links.{writes_waiting, bundles_waiting}
 use Rattle.model.specs.Laws.{EndsAlone, EndChangesNothingElse}
 use Rattle.model.specs.Links.{bundles_in}
-use Rattle.model.specs.Moments.{Moment, Written, ProcessEvent, said, events_of, facts_now, is_end_of, ends, told, heard as heard_events, bundle_moment, heard_moment}
+use Rattle.model.specs.Moments.{Moment, Written, ProcessEvent, said, events_of, events_heard, is_end_of, ends, told, heard as heard_events, bundle_moment, heard_moment}
 use Rattle.model.specs.Moments.Written.{Own, Raw, Said}
-use Rattle.model.specs.Parent.{asked, value, owner, ended}
-use Rattle.model.specs.View.{value_said}
-use Rattle.model.proofs.TiesSending.{behind, sent_said, sent_ended}
-use Rattle.model.proofs.TiesValues.{value_more}
-use Rattle.model.proofs.Hearing.{hear_moment}
+use Rattle.model.specs.Parent.{asked, known, group, above, under, live, owner, value, order, ended}
 
--- ---- owners
+-- ---- what is counted changes no context, and ends nobody
 
-owner_either : (tabs : List StartTab) (x : ContextId) (n : ℕ) (b : Bool) (says old : List Saying) → owner tabs x ((if b then says else Sent n ∷ says) ++ old) ≡ owner tabs x (says ++ old)
-unfolding owner
-owner_either tabs x n true says old = refl
-owner_either tabs x n false says old = refl
+-- what was said before, and more, that changes no context and doesn't end process p
+record SaysLittle (tabs : List StartTab) (p : ℕ) (more old : List Saying) : Type 0 where
+  contexts : (asked tabs (more ++ old)).contexts ≡ (asked tabs old).contexts
+  ended : ended p (more ++ old) ≡ ended p old
 
-sent_owner : (tabs : List StartTab) (x : ContextId) (facts : List Saying → Facts) (n : ℕ) (sends : ℕ → List DownPart) (says old : List Saying) → owner tabs x (behind facts n sends says ++ old) ≡ owner tabs x (says ++ old)
-sent_owner tabs x facts zero sends says old = refl
-sent_owner tabs x facts (suc n) sends says old = owner_either tabs x n (is_no_bundle (sends n)) (behind facts n sends says) old ∙ sent_owner tabs x facts n sends says old
+one_counted : (tabs : List StartTab) (p n : ℕ) (more old : List Saying) → SaysLittle tabs p more old → SaysLittle tabs p (Counted n ∷ more) old
+unfolding known group above under live owner value order ended
+one_counted tabs p n more old s = record { contexts = s.contexts; ended = s.ended }
+
+nothing_said : (tabs : List StartTab) (p : ℕ) (old : List Saying) → SaysLittle tabs p [] old
+nothing_said tabs p old = record { contexts = refl; ended = refl }
+
+counted_little : (tabs : List StartTab) (p : ℕ) (old : List Saying) (v : Bool) → SaysLittle tabs p (if v then Counted p ∷ [] else []) old
+counted_little tabs p old true = one_counted tabs p p [] old (nothing_said tabs p old)
+counted_little tabs p old false = nothing_said tabs p old
+
+-- what is said behind the bundles that the first n processes are sent
+abbrev sendings : (List Saying → Facts) → ℕ → (ℕ → List DownPart) → List Saying → List Saying
+sendings facts n sends says = after_sending facts (λ y says. y ∷ says) n sends says
 
 -- ---- an end
 
--- what was counted before it
-pub record CountsAlone (tabs : List StartTab) (s old : List Saying) : Type 0 where
-  pub value : (x : ContextId) (f : Field) → value_said x f s ≡ None
-  pub owners : (x : ContextId) → owner tabs x (s ++ old) ≡ owner tabs x old
+-- what the parent answers behind an end that was all that was said, but for counts and bundles
+record SaysEnd (tabs : List StartTab) (p : ℕ) (cause : EndCause) (kept old : List Saying) : Type 0 where
+  contexts : (asked tabs (kept ++ old)).contexts ≡ record (asked tabs old).contexts { owner = λ x. if option_any (λ q. q == p) (owner tabs x old) then None else owner tabs x old }
+  ended : ended p (kept ++ old) ≡ Some cause
 
-module _ (c : Config) (p : ℕ) (ms : List Moment) (w : Written) (cause : EndCause) (s : List Saying) (alone : CountsAlone c.tabs s (said ms)) where
-  facts : List Saying → Facts
-  facts says = asked c.tabs (says ++ said ms)
+end_said : (tabs : List StartTab) (p : ℕ) (cause : EndCause) (before old : List Saying) → SaysLittle tabs p before old → SaysEnd tabs p cause (Ended p cause ∷ before) old
+unfolding known group above under live owner value order ended
+end_said tabs p cause before old s = record {
+  contexts = ap (λ (c : Contexts). record c { owner = λ x. if option_any (λ q. q == p) (c.owner x) then None else c.owner x }) s.contexts;
+  ended = ap (λ (v : Bool). if v then Some cause else ended p (before ++ old)) (eq-eqb p p refl);
+}
 
-  sends : ℕ → List DownPart
-  sends q = if q == p then end_parts cause else []
+sent_behind : (tabs : List StartTab) (p : ℕ) (cause : EndCause) (n : ℕ) (b : Bool) (says old : List Saying) → SaysEnd tabs p cause says old → SaysEnd tabs p cause (if b then says else Sent n ∷ says) old
+unfolding known group above under live owner value order ended
+sent_behind tabs p cause n true says old s = s
+sent_behind tabs p cause n false says old s = record { contexts = s.contexts; ended = s.ended }
 
+all_sent : (tabs : List StartTab) (p : ℕ) (cause : EndCause) (facts : List Saying → Facts) (n : ℕ) (sends : ℕ → List DownPart) (says old : List Saying) → SaysEnd tabs p cause says old → SaysEnd tabs p cause (sendings facts n sends says) old
+all_sent tabs p cause facts zero sends says old s = s
+all_sent tabs p cause facts (suc n) sends says old s =
+    sent_behind tabs p cause n (is_no_bundle (sends n)) (sendings facts n sends says) old (all_sent tabs p cause facts n sends says old s)
+
+-- the moment of a bundle with this ruling
+abbrev hear_moment : Config → ℕ → List Moment → Written → Ruling (List Saying) → Moment
+hear_moment c q ms w rule = record { says = rule.kept; did = λ p. []; events = events_heard c q ms w rule; answer = rule.answer }
+
+module _ (c : Config) (p : ℕ) (ms : List Moment) (w : Written) (cause : EndCause) (s : List Saying) (little : SaysLittle c.tabs p s (said ms)) where
   kept : List Saying
-  kept = behind (λ says. asked c.tabs (says ++ said ms)) (length c.types) (λ q. if q == p then end_parts cause else []) (Ended p cause ∷ s)
+  kept = sendings (λ says. asked c.tabs (says ++ said ms)) (length c.types) (λ q. if q == p then end_parts cause else []) (Ended p cause ∷ s)
 
-  owner_is : (x : ContextId) → owner c.tabs x (kept ++ said ms) ≡ (if option_any (λ q. q == p) (owner c.tabs x (said ms)) then None else owner c.tabs x (said ms))
-  unfolding owner kept
-  owner_is x =
-      sent_owner c.tabs x (λ says. asked c.tabs (says ++ said ms)) (length c.types) (λ q. if q == p then end_parts cause else []) (Ended p cause ∷ s) (said ms)
-      ∙ ap (λ (o : Option ℕ). if option_any (λ q. q == p) o then None else o) (alone.owners x)
-
-  value_is : (x : ContextId) (f : Field) → value c.tabs x f (kept ++ said ms) ≡ value c.tabs x f (said ms)
+  said_is : SaysEnd c.tabs p cause kept (said ms)
   unfolding kept
-  value_is x f =
-      value_more c.tabs x f kept (said ms)
-      ∙ ap (λ (o : Option Value). or_later o (value c.tabs x f (said ms)))
-      (sent_said (λ says. asked c.tabs (says ++ said ms)) (length c.types) (λ q. if q == p then end_parts cause else []) (Ended p cause ∷ s) x f ∙ alone.value x f)
+  said_is = all_sent c.tabs p cause (λ says. asked c.tabs (says ++ said ms)) (length c.types) (λ q. if q == p then end_parts cause else []) (Ended p cause ∷ s) (said ms) (end_said c.tabs p cause s (said ms) little)
 
-  ended_is : ended p (kept ++ said ms) ≡ Some cause
-  unfolding kept ended
-  ended_is =
-      sent_ended (λ says. asked c.tabs (says ++ said ms)) (length c.types) (λ q. if q == p then end_parts cause else []) (Ended p cause ∷ s) (said ms) p
-      ∙ ap (λ (v : Bool). if v then Some cause else ended p (s ++ said ms)) (eq-eqb p p refl)
+  owner_is : (x : ContextId) → (asked c.tabs (kept ++ said ms)).contexts.owner x ≡ (if option_any (λ q. q == p) (owner c.tabs x (said ms)) then None else owner c.tabs x (said ms))
+  owner_is x = ap (λ (k : Contexts). k.owner x) said_is.contexts
 
   -- what an entry that tells a process nothing leaves on its links
   up_still : (v : Bool) (k : ℕ) (says : List Saying) (h : List ProcessEvent) → bundles_in (writes_waiting (((if v then Ends ∷ [] else []) ++ told k says None ∷ []) ++ h)) ≡ bundles_in (writes_waiting h)
@@ -101,11 +109,11 @@ module _ (c : Config) (p : ℕ) (ms : List Moment) (w : Written) (cause : EndCau
       else told (length ms + 1) kept (bundle_for (asked c.tabs (kept ++ said ms)) q (if q == p then end_parts cause else [])) ∷ [])) e
       ∙ ap (λ (v : Bool). ends q kept ++ told (length ms + 1) kept (bundle_for (asked c.tabs (kept ++ said ms)) q (if v then end_parts cause else [])) ∷ []) e
 
-  pub ends_alone : EndsAlone c p (hear_moment c p ms w (end_ruling (λ says. asked c.tabs (says ++ said ms)) (λ y says. y ∷ says) (length c.types) p cause s)) ms
+  ends_alone : EndsAlone c p (hear_moment c p ms w (end_ruling (λ says. asked c.tabs (says ++ said ms)) (λ y says. y ∷ says) (length c.types) p cause s)) ms
   unfolding kept
   ends_alone = record {
-    ended = λ none. no_cause (sym none ∙ ended_is);
-    contexts = ap (λ (v : ContextId → Field → Option Value). record (facts_now c ms).contexts { value = v }) (fun_ext (λ x. fun_ext (value_is x)));
+    ended = λ none. no_cause (sym none ∙ said_is.ended);
+    contexts = ap (λ (k : Contexts). record k { owner = λ x. owner c.tabs x (said ms) }) said_is.contexts;
     owned = λ x. ap (option_any (λ q. q == p)) (owner_is x) ∙ none_owns (owner c.tabs x (said ms));
     owners = λ x free. owner_is x ∙ ap (λ (v : Bool). if v then None else owner c.tabs x (said ms)) free;
     seen = λ q. refl;
@@ -122,17 +130,6 @@ module _ (c : Config) (p : ℕ) (ms : List Moment) (w : Written) (cause : EndCau
           by false e = e
 
 -- ---- a bundle that ends its sender
-
-none_counted : (tabs : List StartTab) (old : List Saying) → CountsAlone tabs [] old
-none_counted tabs old = record { value = λ x f. refl; owners = λ x. refl }
-
-one_counted : (tabs : List StartTab) (p : ℕ) (old : List Saying) → CountsAlone tabs (Counted p ∷ []) old
-unfolding owner
-one_counted tabs p old = record { value = λ x f. refl; owners = λ x. refl }
-
-counted_alone : (tabs : List StartTab) (p : ℕ) (old : List Saying) (v : Bool) → CountsAlone tabs (if v then Counted p ∷ [] else []) old
-counted_alone tabs p old true = one_counted tabs p old
-counted_alone tabs p old false = none_counted tabs old
 
 bundle_ends : (c : Config) (ms : List Moment) (allows : Field → Bool) (p : ℕ) (w : Written) (b : UpBundle) (cause : EndCause) → (bundle_moment c p ms allows w b).answer ≡ EndedBy cause
     → EndsAlone c p (bundle_moment c p ms allows w b) ms
@@ -153,7 +150,7 @@ bundle_ends c ms allows p w b cause =
     by : (over : Bool) (fault : Option EndCause) → (rule over fault).answer ≡ EndedBy cause → EndsAlone c p (hear_moment c p ms w (rule over fault)) ms
     by true fault e = absurd cc
     by false None e = absurd cc
-    by false (Some why) e = ends_alone c p ms w why counted (counted_alone c.tabs p (said ms) (is_counted (asked c.tabs (said ms)) p b))
+    by false (Some why) e = ends_alone c p ms w why counted (counted_little c.tabs p (said ms) (is_counted (asked c.tabs (said ms)) p b))
 
 pub end_alone : EndChangesNothingElse
 end_alone c ms allows p cause = by (writes_waiting (events_of p.0 ms))

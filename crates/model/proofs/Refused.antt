@@ -33,7 +33,7 @@ use Rattle.traces.specs.Event.{Bundle}
 use Rattle.traces.specs.Links.{writes_waiting, bundles_waiting}
 use Rattle.model.specs.Laws.{is_refused, Unchanged, RefusedChangesNothing}
 use Rattle.model.specs.Links.{bundles_in}
-use Rattle.model.specs.Moments.{Moment, Written, ProcessEvent, said, did_by, events_of, facts_now, seen_now, for_one, written, ends, told, only_answer, if_running, act_moment, taken_moment, raw_moment, parent_moment, heard_moment}
+use Rattle.model.specs.Moments.{Moment, Written, ProcessEvent, said, did_by, events_of, facts_now, seen_now, for_one, written, deeds, ends, told, only_answer, if_running, act_moment, taken_moment, raw_moment, parent_moment, heard_moment}
 use Rattle.model.specs.Moments.Written.{Own, Raw, Said}
 use Rattle.model.specs.Parent.{asked}
 use Rattle.model.specs.Process.{own_asked}
@@ -74,7 +74,7 @@ abbrev moment_by : Config → ℕ → List Moment → take.Step (List Doing) →
 moment_by c p ms step = record {
   says = [];
   did = for_one p step.kept;
-  events = for_one p (written (bundle_sent (own_asked c.tabs p (step.kept ++ did_by p ms)) step.sends));
+  events = for_one p (written (bundle_sent (own_asked c.tabs p (step.kept ++ did_by p ms)) step.sends) ++ deeds (own_asked c.tabs p (step.kept ++ did_by p ms)) step.kept);
   answer = step.answer;
 }
 

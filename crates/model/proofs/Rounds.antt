@@ -3,7 +3,7 @@ use Rattle.std.proofs.Common.{◌≡◌, ◌⊎◌, inl, inr, ℕ, zero, suc, �
 use Rattle.std.proofs.lemmas.Bool.{eqb-true, eqb-false}
 use Rattle.field_rules.specs.Bounds.{Bounds}
 use Rattle.protocol.specs.Start.{numbers}
-use Rattle.model.specs.Laws.{RunFits, Settles}
+use Rattle.model.specs.Laws.{RunFits, SettlingEnds}
 use Rattle.model.specs.Next.{Run}
 use Rattle.model.specs.Settling.{weight, heard_by, taken_by, all_served, round, rounds, settled, IsServed}
 use Rattle.model.proofs.RoundsGoes.{Goes, goes_nowhere, goes_on, goes_heard, goes_taken, goes_all, goes_round, still_below, grows, numbers_below, served_still}
@@ -125,15 +125,15 @@ module _ (bounds : Bounds) where
   unfolding settled
   settled_end r fits = rounds_end (weight r) r fits (omega arith)
 
-  pub settling_ends : (r : Run) → RunFits r → Settles bounds r
-  settling_ends r fits =
-      let goes : Goes r (settled bounds r) = goes_settled r fits in
-      record {
-        config = goes.config;
-        served = λ p below. served_by_round (settled bounds r) goes.fits (ap (λ x. length x.journal) (settled_end r fits)) p (still_below p r (settled bounds r) goes below);
-        extends = goes.extends;
-        falls = goes.falls;
-      }
+pub settling_ends : SettlingEnds
+settling_ends bounds r fits =
+    let goes : Goes r (settled bounds r) = goes_settled bounds r fits in
+    record {
+      config = goes.config;
+      served = λ p below. served_by_round bounds (settled bounds r) goes.fits (ap (λ x. length x.journal) (settled_end bounds r fits)) p (still_below p r (settled bounds r) goes below);
+      extends = goes.extends;
+      falls = goes.falls;
+    }
 
 -- ---- a loop of rounds that began at one run, is at another, and makes a round, as long as that adds an entry
 

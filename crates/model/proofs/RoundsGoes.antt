@@ -16,8 +16,7 @@ use Rattle.model.specs.Moments.{Written, events_of, seen_now}
 use Rattle.model.specs.Moments.Written.{Own, Raw, Said}
 use Rattle.model.specs.Next.{Run, run_after, moment_after}
 use Rattle.model.specs.Settling.{weight, moments_in, heard_by, taken_by, all_served, round, IsServed, Extends}
-use Rattle.model.proofs.Ties.{IsUp}
-use Rattle.model.proofs.WeightsLinks.{waiting_own}
+use Rattle.model.proofs.WeightsLinks.{IsUp, waiting_own}
 use Rattle.model.proofs.Falls.{run_lights, hear_lowers, hear_raw_lowers, take_lowers}
 
 -- r' came of r: entries were added, what waits weighs as much less at least, and without a further entry
@@ -94,7 +93,7 @@ module _ (bounds : Bounds) where
   hear_of r p (Said says ∷ ws) fits below first own = absurd own.0
 
   pub goes_heard : (p : ℕ) (r : Run) → RunFits r → p < length r.config.types → Goes r (heard_by bounds p r)
-  goes_heard p r fits below = hear_of r p (writes_waiting (events_of p (moments_in r))) fits below refl (waiting_own (events_of p (moments_in r)) (run_lights r fits p))
+  goes_heard p r fits below = hear_of r p (writes_waiting (events_of p (moments_in r))) fits below refl (waiting_own (events_of p (moments_in r)) (run_lights r p))
 
   take_of : (r : Run) (p : ℕ) (w : List (Bundle DownBundle)) → RunFits r → p < length r.config.types → (seen_now r.config p (moments_in r)).running ≡ true → bundles_waiting (events_of p (moments_in r)) ≡ w
       → Goes r (if not (is_nothing (contents w)) then run_after bounds r (Take (record { 0 = p })) else r)
@@ -176,6 +175,6 @@ module _ (bounds : Bounds) where
   -- where serving a process does nothing, nothing waits for it
   pub served_still : (p : ℕ) (r : Run) → RunFits r → heard_by bounds p r ≡ r → taken_by bounds p r ≡ r → IsServed p r
   served_still p r fits heard taken = record {
-    up = none_up r p (writes_waiting (events_of p (moments_in r))) (waiting_own (events_of p (moments_in r)) (run_lights r fits p)) heard;
+    up = none_up r p (writes_waiting (events_of p (moments_in r))) (waiting_own (events_of p (moments_in r)) (run_lights r p)) heard;
     down = λ running. none_down r p (bundles_waiting (events_of p (moments_in r))) (seen_now r.config p (moments_in r)).running running taken;
   }

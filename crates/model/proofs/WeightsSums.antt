@@ -42,7 +42,15 @@ at_least p e k (suc n) from below = elim (k == p) as (λ b. (k == p) ≡ b → e
       omega (arith, at_least p e (suc k) n further (omega arith))
 ] refl
 
--- at most one at each of n numbers
-pub ones : (more : ℕ → ℕ) → ((q : ℕ) → more q ≤ 1) → (k n : ℕ) → total more (numbers k n) ≤ n
-ones more each k zero = omega arith
-ones more each k (suc n) = omega (arith, each k, ones more each (suc k) n)
+pub total_one : (k n : ℕ) → total (λ (q : ℕ). 1) (numbers k n) ≡ n
+total_one k zero = refl
+total_one k (suc n) = omega (arith, total_one (suc k) n)
+
+pub total_three : (k n : ℕ) → total (λ (q : ℕ). 3) (numbers k n) ≡ n + n + n
+total_three k zero = refl
+total_three k (suc n) = omega (arith, total_three (suc k) n)
+
+-- a total of what is no more at each item
+pub total_most : {X : Type 0} (f g : X → ℕ) → ((x : X) → f x ≤ g x) → (xs : List X) → total f xs ≤ total g xs
+total_most f g each [] = omega arith
+total_most f g each (x ∷ xs) = omega (arith, each x, total_most f g each xs)

@@ -1,5 +1,6 @@
 -- What holds of every journal whose steps can be played.
-use Rattle.std.specs.Prelude.{◌≡◌, ℕ, ◌+◌, ◌≤◌, ◌<◌, ◌==◌, List, ◌∷◌, length, Bool, true, false, None, Some}
+use Rattle.std.specs.Prelude.{◌≡◌, ℕ, ◌+◌, ◌≤◌, ◌<◌, ◌==◌, List, ◌∷◌, length, filter}
+use Rattle.std.specs.Prelude.{Bool, true, false, ◌&&◌, Option, None, Some}
 use Rattle.std.specs.List.{AllByRecursion}
 use Rattle.fission_ids.specs.declared.context.ContextId.{ContextId}
 use Rattle.fission_ids.specs.declared.process.ProcId.{ProcId}
@@ -15,8 +16,9 @@ use Rattle.journal.specs.Step.{StepFits}
 use Rattle.journal.specs.declared.entry.Entry.{Entry}
 use Rattle.journal.specs.declared.entry.Step.{Step}
 use Rattle.journal.specs.declared.entry.Step.TheVariants.{Take, Hear}
-use Rattle.protocol.specs.Questions.{is_owner}
-use Rattle.protocol.specs.Start.{is_held_at_start}
+use Rattle.fission_ids.specs.Ids.{same_context}
+use Rattle.protocol.specs.Questions.{Facts, is_owner, is_told, option_any}
+use Rattle.protocol.specs.Seen.{Seen}
 use Rattle.model.specs.Journal.{steps_of}
 use Rattle.model.specs.Links.{is_quiet, up_waiting, down_waiting}
 use Rattle.model.specs.Moments.{Moment, moment, moments_of, seen_now, facts_now}
@@ -53,7 +55,7 @@ QuietShowsTheParent =
     → is_honest r.config p r.journal ≡ true
     → (facts_now r.config (moments_of r.config r.journal)).processes.ended p ≡ None
     → is_quiet r.config p r.journal ≡ true
-    → is_held_at_start r.config.tabs p x ≡ true
+    → (seen_now r.config p (moments_of r.config r.journal)).holds x ≡ true
     → view r.config p x f r.journal ≡ parent_view r.config x f r.journal
 
 -- as an honest process takes the bundle that reverts its newest write to a field, it shows the parent's
@@ -63,7 +65,8 @@ RevertTakenShowsTheParent =
     (r : Run) (a : Answer) (p : ProcId) (x : ContextId) (f : Field) (k : ℕ)
     → RunFits (run_with r (record { step = Take p; answer = a }))
     → is_honest r.config p.0 r.journal ≡ true
-    → is_held_at_start r.config.tabs p.0 x ≡ true
+    → (seen_now r.config p.0 (moments_of r.config (record { step = Take p; answer = a } ∷ r.journal))).holds x
+    ≡ true
     → sent_first r.config p.0 r.journal ≡ Some k
     → reverted_in (newest r.config p.0 x f r.journal) r.config p.0 x f r.journal ≡ Some k
     → view r.config p.0 x f (record { step = Take p; answer = a } ∷ r.journal) ≡
@@ -141,3 +144,49 @@ EndChangesNothingElse =
     (c : Config) (ms : List Moment) (allows : Field → Bool) (p : ProcId) (cause : EndCause)
     → (moment c ms allows (Hear p)).answer ≡ Ended cause
     → EndsAlone c p.0 (moment c ms allows (Hear p)) ms
+
+-- ---- trees
+
+-- an honest process that wasn't ended, with nothing on its links
+pub record IsAtRest (r : Run) (p : ℕ) : Type 0 where
+  pub fits : RunFits r
+  pub process : p < length r.config.types
+  pub honest : is_honest r.config p r.journal ≡ true
+  pub runs : (facts_now r.config (moments_of r.config r.journal)).processes.ended p ≡ None
+  pub quiet : is_quiet r.config p r.journal ≡ true
+
+-- it holds exactly the live contexts that the parent tells it of
+abbrev pub QuietHoldsTheParents : Type 0
+QuietHoldsTheParents = (r : Run) (p : ℕ) (x : ContextId) → IsAtRest r p →
+    let f = facts_now r.config (moments_of r.config r.journal) in
+    (seen_now r.config p (moments_of r.config r.journal)).holds x ≡ (f.contexts.live x && is_told f p x)
+
+-- of each it says the same as the parent: its group, the context above, whether the process owns it
+pub record IsTheSame (f : Facts) (p : ℕ) (s : Seen) (x : ContextId) : Type 0 where
+  pub group : s.group x ≡ f.contexts.group x
+  pub above : s.above x ≡ f.contexts.above x
+  pub owns : s.owns x ≡ is_owner f p x
+
+abbrev pub QuietSaysTheSame : Type 0
+QuietSaysTheSame = (r : Run) (p : ℕ) (x : ContextId) → IsAtRest r p
+    → (seen_now r.config p (moments_of r.config r.journal)).holds x ≡ true
+    → IsTheSame (facts_now r.config (moments_of r.config r.journal)) p
+    (seen_now r.config p (moments_of r.config r.journal)) x
+
+-- the frames in a context, in the order of all
+abbrev pub frames_in : (ContextId → Option ContextId) → List ContextId → ContextId → List ContextId
+frames_in above order y = filter (λ x. option_any (same_context y) (above x)) order
+
+-- and the frames in it are the parent's, in the same order
+abbrev pub QuietHasTheSameFrames : Type 0
+QuietHasTheSameFrames = (r : Run) (p : ℕ) (y : ContextId) → IsAtRest r p
+    → (seen_now r.config p (moments_of r.config r.journal)).holds y ≡ true →
+    let f = facts_now r.config (moments_of r.config r.journal) in
+    let s = seen_now r.config p (moments_of r.config r.journal) in
+    frames_in s.above s.order y ≡ frames_in f.contexts.above f.contexts.order y
+
+-- and its contexts are the parent's that it is told of, in the same order
+abbrev pub QuietHasTheSameOrder : Type 0
+QuietHasTheSameOrder = (r : Run) (p : ℕ) → IsAtRest r p →
+    let f = facts_now r.config (moments_of r.config r.journal) in
+    (seen_now r.config p (moments_of r.config r.journal)).order ≡ filter (λ x. is_told f p x) f.contexts.order

@@ -2,6 +2,8 @@ pub mod Journal
 pub mod Parent
 pub mod Process
 pub mod Moments
+pub mod Lines
+pub mod Trees
 pub mod Next
 pub mod Links
 pub mod View

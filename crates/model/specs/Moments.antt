@@ -1,15 +1,22 @@
 -- What each entry came to, by looking back through those before it.
 use Rattle.std.specs.Prelude.{ℕ, ◌+◌, ◌==◌, Bool, true, false, if◌then◌else◌}
-use Rattle.std.specs.Prelude.{List, [], ◌∷◌, ◌++◌, length, Option, None, Some}
+use Rattle.std.specs.Prelude.{List, [], ◌∷◌, ◌++◌, length, Option, None, Some, unwrap_or}
 use Rattle.std.specs.List.{list_any}
+use Rattle.fission_ids.specs.declared.context.ContextId.{ContextId}
 use Rattle.field_table.specs.declared.field.Field.{Field}
+use Rattle.field_table.specs.Table.{initial_table}
 use Rattle.wire_msgs.specs.declared.action.Action.{Action}
 use Rattle.wire_msgs.specs.declared.answer.Answer.{Answer}
 use Rattle.wire_msgs.specs.declared.answer.Answer.TheVariants.{Parts, Ended as EndedBy, Done, Refused}
 use Rattle.wire_msgs.specs.declared.bundle.DownBundle.{DownBundle}
 use Rattle.wire_msgs.specs.declared.bundle.UpBundle.{UpBundle}
 use Rattle.wire_msgs.specs.declared.config.Config.{Config}
-use Rattle.wire_msgs.specs.declared.note.PartNote.TheVariants.{Commit}
+use Rattle.wire_msgs.specs.declared.note.PartNote.{PartNote}
+use Rattle.wire_msgs.specs.declared.note.PartNote.TheVariants as notes
+use Rattle.wire_msgs.specs.declared.note.Mark.TheVariants.{Ignored}
+use Rattle.wire_msgs.specs.declared.part.DownPart.{DownPart}
+use Rattle.wire_msgs.specs.declared.part.DownPart.TheVariants.{Create, Discard}
+use Rattle.wire_msgs.specs.declared.part.Known.{Known}
 use Rattle.wire_msgs.specs.declared.refusal.Refusal.TheVariants.{Stopped, Empty}
 use Rattle.journal.specs.declared.entry.Step.{Step}
 use Rattle.journal.specs.declared.entry.Step.TheVariants.{Act, Take, Raw as RawStep, ParentAct, Hear}
@@ -17,13 +24,15 @@ use Rattle.protocol.specs.Questions.{Facts}
 use Rattle.protocol.specs.Sayings.{Saying}
 use Rattle.protocol.specs.Sayings.Saying.{Ended}
 use Rattle.protocol.specs.Seen.{Seen, Doing}
+use Rattle.protocol.specs.Seen.Doing.{Framed, Went}
 use Rattle.protocol.specs.Bundle.{Ruling, bundle_ruling, bundle_for}
 use Rattle.protocol.specs.ParentActs.{action_ruling}
 use Rattle.protocol.specs.Take.{bundle_step, bundle_sent}
 use Rattle.protocol.specs.OwnActs.{action_step}
 use Rattle.protocol.specs.Outside.{told_allowed}
 use Rattle.traces.specs.Event.{Event, Bundle}
-use Rattle.traces.specs.Event.Event.{Writes, Sends, Takes, Accepts, Reverts, Ignores, Changes, Ends}
+use Rattle.traces.specs.Event.Event.{Writes, Sends, Takes, Accepts, Reverts, Ignores}
+use Rattle.traces.specs.Event.Event.{Changes, Does, Ends}
 use Rattle.traces.specs.Links.{writes_waiting, bundles_waiting}
 use Rattle.model.specs.Journal.{Journal}
 use Rattle.model.specs.Parent.{asked}
@@ -85,6 +94,27 @@ abbrev pub written : Option UpBundle → List ProcessEvent
 written None = []
 written (Some b) = Writes (Own b) ∷ []
 
+-- a frame that a process made, as it would be told of it
+abbrev pub own_known : Seen → ContextId → ContextId → Known
+own_known s x above = record {
+  context = x;
+  group = unwrap_or (s.group x) (record { 0 = 0 });
+  parent = Some above;
+  owned = true;
+  fields = initial_table;
+}
+
+-- a part that a process does by itself, as a bundle that has it
+abbrev pub deed : DownPart → ProcessEvent
+deed part = Does (record { epoch = record { 0 = 0 }; parts = part ∷ [] })
+
+-- the events of what a process made and dropped by itself
+abbrev pub deeds : Seen → List Doing → List ProcessEvent
+deeds s [] = []
+deeds s (Framed x above ∷ did) = deed (Create (own_known s x above)) ∷ deeds s did
+deeds s (Went x ∷ did) = deed (Discard x) ∷ deeds s did
+deeds s (_ ∷ did) = deeds s did
+
 -- a process acts; what it did is added to what it did before
 abbrev pub act_moment : Config → ℕ → Action → List Moment → Moment
 act_moment c p action ms =
@@ -93,7 +123,8 @@ act_moment c p action ms =
     record {
       says = [];
       did = for_one p step.kept;
-      events = for_one p (written (bundle_sent (now step.kept) step.sends));
+      events =
+          for_one p (written (bundle_sent (now step.kept) step.sends) ++ deeds (now step.kept) step.kept);
       answer = step.answer;
     }
 
@@ -150,16 +181,22 @@ parent_moment c ms rule = record {
   answer = rule.answer;
 }
 
--- whether the parent judged a commit
-abbrev pub is_judged : Answer → Bool
-is_judged (Parts (Commit x notes ∷ more)) = true
-is_judged answer = false
+-- whether the parent did something with a part
+abbrev pub is_done_with : PartNote → Bool
+is_done_with (notes.Drop x Ignored) = false
+is_done_with (notes.CommitIgnored x) = false
+is_done_with note = true
+
+-- whether it did something with a bundle
+abbrev pub is_done : Answer → Bool
+is_done (Parts ns) = list_any is_done_with ns
+is_done answer = false
 
 -- the events of the process whose bundle the parent hears in entry k, by what it is sent
 abbrev pub heard : ℕ → Written → Answer → List Saying → Option DownBundle → List ProcessEvent
 heard k w (EndedBy cause) says None = Ignores k w ∷ []
 heard k w (EndedBy cause) says (Some d) = Sends k (Said says) d ∷ Ignores k w ∷ []
-heard k w answer says None = (if is_judged answer then Accepts k w else Ignores k w) ∷ []
+heard k w answer says None = (if is_done answer then Accepts k w else Ignores k w) ∷ []
 heard k w answer says (Some d) = Reverts k w d ∷ []
 
 -- the events of each process as the parent hears a bundle of process p

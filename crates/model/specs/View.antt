@@ -6,6 +6,7 @@ use Rattle.fission_ids.specs.Ids.{same_context}
 use Rattle.field_table.specs.declared.field.Field.{Field}
 use Rattle.field_table.specs.declared.value.Value.{Value}
 use Rattle.field_table.specs.Field.{initial}
+use Rattle.field_table.specs.Table.{value_in}
 use Rattle.transaction.specs.Transaction.{Changes, new_value}
 use Rattle.wire_msgs.specs.declared.config.Config.{Config}
 use Rattle.wire_msgs.specs.declared.bundle.DownBundle.{DownBundle}
@@ -18,7 +19,7 @@ use Rattle.protocol.specs.Sayings.{Saying}
 use Rattle.protocol.specs.Sayings.Saying.{Wrote}
 use Rattle.protocol.specs.Start.{is_held_at_start}
 use Rattle.traces.specs.Field.{Content, Look, Trace, trace_for}
-use Rattle.traces.specs.Field.Content.{Nothing, Gives}
+use Rattle.traces.specs.Field.Content.{Nothing, Gives, Begins, Removes}
 use Rattle.traces.specs.Event.{Bundle}
 use Rattle.traces.specs.Event.Event.{Writes}
 use Rattle.traces.specs.Laws.{Stands}
@@ -28,6 +29,7 @@ use Rattle.traces.specs.Words.Stage.{Held, Coming}
 use Rattle.traces.specs.Words.Fate.{Reverted}
 use Rattle.traces.specs.Words as words
 use Rattle.model.specs.Journal.{Journal}
+use Rattle.model.specs.Lines.{Making, makings, line, is_among}
 use Rattle.model.specs.Moments.{Moment, Written, ProcessEvent, events_of, facts_now, moments_of}
 use Rattle.model.specs.Moments.Written.{Own, Raw, Said}
 
@@ -54,19 +56,34 @@ value_written x f (Own b) = value_in_parts x f b.parts
 value_written x f (Raw b) = value_in_parts x f b.parts
 value_written x f (Said says) = value_said x f says
 
--- what there is where there is a value
+-- a new value, unless what is behind it has one or takes the context away
 abbrev pub given : Option Value → Content Value → Content Value
-given None c = c
-given (Some v) c = Gives v
+given (Some v) Nothing = Gives v
+given o c = c
 
--- what the parent's parts hold for it; so far they are commits
-abbrev pub content_of : ContextId → Field → List DownPart → Content Value
-content_of x f [] = Nothing
-content_of x f (downs.Commit y t ∷ parts) = given (value_for x f y t) (content_of x f parts)
-content_of x f (_ ∷ parts) = content_of x f parts
+-- a context comes with a value, unless what is behind it has another or takes it away
+abbrev pub begun : Value → Content Value → Content Value
+begun v Nothing = Begins v
+begun v (Gives w) = Begins w
+begun v c = c
 
-abbrev pub look : ContextId → Field → Look Written DownBundle Value
-look x f = record { value_in = value_written x f; content_in = λ d. content_of x f d.parts }
+-- what the parent's parts hold for a field of a context with this line
+abbrev pub content_of : ContextId → List ContextId → Field → List DownPart → Content Value
+content_of x line f [] = Nothing
+content_of x line f (downs.Create k ∷ parts) =
+    if same_context x k.context then begun (value_in k.fields f) (content_of x line f parts)
+    else content_of x line f parts
+content_of x line f (downs.Commit y t ∷ parts) = given (value_for x f y t) (content_of x line f parts)
+content_of x line f (downs.Discard w ∷ parts) =
+    if is_among w line then Removes else content_of x line f parts
+content_of x line f (_ ∷ parts) = content_of x line f parts
+
+-- by what is above the context in these makings
+abbrev pub look : ContextId → Field → List Making → Look Written DownBundle Value
+look x f ms = record {
+  value_in = value_written x f;
+  content_in = λ d. content_of x (line x ms) f d.parts;
+}
 
 -- ---- honest processes
 
@@ -87,7 +104,7 @@ abbrev pub begin : Config → ℕ → ContextId → Field → Start Value
 begin c p x f = record { initial = initial f; stage = if is_held_at_start c.tabs p x then Held else Coming }
 
 abbrev pub trace : ℕ → ContextId → Field → List Moment → Trace Value
-trace p x f ms = trace_for (look x f) (events_of p ms)
+trace p x f ms = trace_for (look x f (makings p ms)) (events_of p ms)
 
 -- the entry that sent the last bundle that process p took, or 0
 abbrev pub base : Config → ℕ → ContextId → Field → Journal → ℕ

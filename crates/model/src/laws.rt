@@ -2,6 +2,8 @@ ghost use Rattle.model.specs.Laws.{ProcessShowsTheView, PointNeverFalls, QuietSh
 ghost use Rattle.model.specs.Laws.{SettlingEnds, StepAddsLittle, RefusedChangesNothing};
 ghost use Rattle.model.specs.Laws.{RevertTakenShowsTheParent, RevertsWait};
 ghost use Rattle.model.specs.Laws.{HonestAreOnlyKilled, EndChangesNothingElse};
+ghost use Rattle.model.specs.Laws.{QuietHoldsTheParents, QuietSaysTheSame, QuietHasTheSameFrames};
+ghost use Rattle.model.specs.Laws.{QuietHasTheSameOrder};
 
 /// What an honest process answers of a field is its view: its newest own write not yet answered, else the
 /// parent's value at the process's point; and it answers something exactly of what it holds.
@@ -57,4 +59,26 @@ pub fn a_step_adds_little()
 /// A refused step changes no answer of the parent or of a process, and nothing that waits.
 pub fn refused_changes_nothing()
     ensures { RefusedChangesNothing }
+{}
+
+/// An honest process that wasn't ended, with nothing on its links, holds exactly the live contexts of the
+/// groups that the parent tells it of.
+pub fn quiet_holds_the_parents()
+    ensures { QuietHoldsTheParents }
+{}
+
+/// Of each context that it holds then, it says the same group, the same context above and the same owner as
+/// the parent does.
+pub fn quiet_says_the_same()
+    ensures { QuietSaysTheSame }
+{}
+
+/// The frames in it are then the parent's, in the same order.
+pub fn quiet_has_the_same_frames()
+    ensures { QuietHasTheSameFrames }
+{}
+
+/// All its contexts are then the parent's that it is told of, in the same order.
+pub fn quiet_has_the_same_order()
+    ensures { QuietHasTheSameOrder }
 {}

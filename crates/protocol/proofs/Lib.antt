@@ -1,5 +1,4 @@
 pub mod Notes
 pub mod Judging
 pub mod Readings
-pub mod Heard
-pub mod Groups
+pub mod Same

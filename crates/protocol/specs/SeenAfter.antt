@@ -1,7 +1,7 @@
 -- What a doing does to all answers of a process at once.
 use Rattle.std.specs.Prelude.{ℕ, ◌+◌, ◌==◌, nat_lt, Bool, true, false}
 use Rattle.std.specs.Prelude.{not, ◌&&◌, ◌||◌, if◌then◌else◌, filter, insert, length}
-use Rattle.std.specs.Prelude.{Option, None, Some, is_none, is_some}
+use Rattle.std.specs.Prelude.{List, Option, None, Some, is_none, is_some}
 use Rattle.std.specs.List.{position_or_len}
 use Rattle.fission_ids.specs.declared.context.ContextId.{ContextId}
 use Rattle.fission_ids.specs.declared.group.GroupId.{GroupId}
@@ -21,11 +21,16 @@ use Rattle.protocol.specs.Take.{may_come}
 abbrev pub is_greater : ContextId → ContextId → Bool
 is_greater x y = nat_lt y.creator x.creator || (y.creator == x.creator && nat_lt y.serial x.serial)
 
--- where a context goes: a top-level one before the first with a greater id, another behind all in its parent
+-- where a context goes among those in order: a top-level one before the first with a greater id, another
+-- behind all in its parent
+abbrev pub place_among : (ContextId → Option ContextId) → (ContextId → ContextId → Bool) → List ContextId
+    → ContextId → Option ContextId → ℕ
+place_among above under order x None = position_or_len (λ y. is_none (above y) && is_greater y x) order
+place_among above under order x (Some a) =
+    position_or_len (same_context a) order + length (filter (λ y. under y a) order)
+
 abbrev pub place_for : Seen → ContextId → Option ContextId → ℕ
-place_for s x None = position_or_len (λ y. is_none (s.above y) && is_greater y x) s.order
-place_for s x (Some above) =
-    position_or_len (same_context above) s.order + length (filter (λ y. s.under y above) s.order)
+place_for s x parent = place_among s.above s.under s.order x parent
 
 -- the process holds one context more
 abbrev pub with_context : ContextId → Option GroupId → Option ContextId → Bool → (Field → Value) → Seen → Seen

@@ -56,8 +56,8 @@ DropsAreAllowed X W B = (look : Look X W B) (begin : Begin X) (w : W) (h : List 
     (x y : X) → look.drops x w ≡ true → look.above x ≡ Some y → life look begin x h ≡ Held →
     owned look begin y h ≡ true
 
--- as a bundle is taken that brings a context of another, the process doesn't have that: if it didn't drop it, it
--- has the context above then, and if it dropped it, it hasn't
+-- as a bundle is taken that brings a context of another, the process doesn't have that: if it didn't drop it,
+-- it has the context above then, and if it dropped it, it hasn't
 abbrev pub ComingsAreBelowTheHeld : Type 0 → Type 0 → Type 0 → Type 0
 ComingsAreBelowTheHeld X W B = (look : Look X W B) (begin : Begin X) (d : Bundle B) (h : List (Event W B)) →
     Keeps look begin h → is_ended h ≡ false → IsFirst d (bundles_waiting h) →

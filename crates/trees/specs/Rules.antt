@@ -62,7 +62,8 @@ abbrev pub HandsOver : Effect → Handing → Type 0
 HandsOver Comes hand = hand ≡ Given
 HandsOver _ hand = hand ≡ Same
 
--- it names what it makes, and else what it has, and drops what is below a context that it owns, with all below
+-- it names what it makes, and else what it has, and drops what is below a context that it owns, with all
+-- below
 pub record Wrote {X W B : Type 0} (look : Look X W B) (begin : Begin X) (w : W) (x : X)
     (h : List (Event W B)) : Type 0 where
   pub acts : Acts look begin x h (look.does x w)
@@ -76,9 +77,9 @@ pub record Wrote {X W B : Type 0} (look : Look X W B) (begin : Begin X) (w : W) 
 
 -- ---- what the parent does
 
--- a coming is of a context that the parent doesn't know, below a live one, made by who owns that; a context of
--- the process that the parent doesn't know goes only with the one above; and where a context changes its owner
--- nothing below it is left
+-- a coming is of a context that the parent doesn't know, below a live one, made by who owns that; a context
+-- of the process that the parent doesn't know goes only with the one above; and where a context changes its
+-- owner nothing below it is left
 pub record Done {X W B : Type 0} (look : Look X W B) (begin : Begin X) (e : Event W B) (w : W) (x : X)
     (h : List (Event W B)) : Type 0 where
   pub new : look.does x w ≡ Comes → life look begin x h ≡ Coming

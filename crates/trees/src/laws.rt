@@ -41,8 +41,8 @@ pub fn drops_are_allowed<X, W, B>()
     ensures { DropsAreAllowed X W B }
 {}
 
-/// As a bundle is taken that brings another's context, the process doesn't have that: if it didn't drop it, it
-/// has the context above then, and if it dropped it, it hasn't.
+/// As a bundle is taken that brings another's context, the process doesn't have that: if it didn't drop it,
+/// it has the context above then, and if it dropped it, it hasn't.
 pub fn comings_are_below_the_held<X, W, B>()
     ensures { ComingsAreBelowTheHeld X W B }
 {}

@@ -1,24 +1,17 @@
 -- What a step comes to over the lists that the code has is what the model says of it.
 use Rattle.std.proofs.Common.{◌≡◌, ◌≢◌, ℕ, suc, ◌+◌, ◌<◌, ◌==◌, Bool, true, false, if◌then◌else◌, List, [], ◌∷◌, ◌++◌, length, map, drop, set, Option, None, Some, unwrap_or, refl, sym, ap, ap₂, ◌∙◌, arith, eq-eqb, ne_eqb, eqb-true}
 use Rattle.std.specs.List.{AllByRecursion}
-use Rattle.std.specs.Prelude.{⊤}
-use Rattle.fission_ids.specs.declared.context.ContextId.{ContextId}
 use Rattle.field_table.specs.declared.field.Field.{Field}
-use Rattle.transaction.specs.Transaction.{Changes}
 use Rattle.field_rules.specs.Bounds.{Bounds}
 use Rattle.wire_msgs.specs.declared.action.Action.{Action}
-use Rattle.wire_msgs.specs.declared.action.Action.TheVariants as own
 use Rattle.wire_msgs.specs.declared.action.ParentAction.{ParentAction}
-use Rattle.wire_msgs.specs.declared.action.ParentAction.TheVariants.{Set, Kill as KillAct}
 use Rattle.wire_msgs.specs.declared.answer.Answer.{Answer}
 use Rattle.wire_msgs.specs.declared.answer.Answer.TheVariants.{Refused}
 use Rattle.wire_msgs.specs.declared.bundle.DownBundle.{DownBundle}
 use Rattle.wire_msgs.specs.declared.bundle.UpBundle.{UpBundle}
 use Rattle.wire_msgs.specs.declared.config.Config.{Config}
 use Rattle.wire_msgs.specs.declared.part.DownPart.{DownPart}
-use Rattle.wire_msgs.specs.declared.part.DownPart.TheVariants.{Commit, Kill}
 use Rattle.wire_msgs.specs.declared.refusal.Refusal.TheVariants.{Stopped}
-use Rattle.journal.specs.Step.{IsPlayed}
 use Rattle.protocol.specs.Questions.{Facts}
 use Rattle.protocol.specs.Sayings.{Saying}
 use Rattle.protocol.specs.Seen.{Seen, Doing}
@@ -26,28 +19,27 @@ use Rattle.protocol.specs.Start.{numbers}
 use Rattle.protocol.specs.FactsAfter.{facts_after}
 use Rattle.protocol.specs.SeenAfter.{seen_after}
 use Rattle.protocol.specs.Bundle.{Ruling, bundle_ruling, bundle_for}
-use Rattle.protocol.specs.Commits.{AreCommits}
 use Rattle.protocol.specs.Outside.{allowed_of}
 use Rattle.protocol.specs.ParentActs.{action_ruling}
 use Rattle.protocol.specs.OwnActs.{action_step}
 use Rattle.protocol.specs.Take.{bundle_step, bundle_sent}
 use Rattle.protocol.specs.Take as take
-use Rattle.protocol.proofs.Readings.{Agrees, Meets, own_set_agrees, take_agrees, kill_agrees, set_meets, kill_meets, bundle_meets}
+use Rattle.protocol.proofs.Readings.{Agrees, Meets, own_action_agrees, take_agrees, action_meets, bundle_meets}
 use Rattle.traces.specs.Event.{Bundle}
 use Rattle.traces.specs.Event.Event.{Writes, Takes}
 use Rattle.traces.specs.Links.{writes_waiting, bundles_waiting, takes, bundles_sent}
 use Rattle.parent_core.specs.Ruled.{bundles_of}
 use Rattle.model.specs.Next.{allowed_first}
-use Rattle.model.specs.Moments.{Moment, Written, ProcessEvent, events_of, facts_now, seen_now, for_one, only_answer, written, ends, told, sent_to, act_moment, taken_moment, raw_moment, parent_moment, heard_moment, bundle_moment, heard as heard_events}
+use Rattle.model.specs.Moments.{Moment, Written, ProcessEvent, events_of, facts_now, seen_now, for_one, only_answer, written, deeds, ends, told, sent_to, act_moment, taken_moment, raw_moment, parent_moment, heard_moment, bundle_moment, heard as heard_events}
 use Rattle.model.specs.Moments as model
 use Rattle.model.specs.Moments.Written.{Own, Raw, Said}
 use Rattle.model.specs.Links.{up_waiting, down_waiting, bundles_in}
-use Rattle.model.proofs.Ties.{IsUp}
+use Rattle.model.proofs.WeightsLinks.{IsUp}
 use Rattle.world.specs.Sides.{Side, no_side, side_at, step_of_action, step_of_bundle, sides_after, sent_by, ups_after, waiting_at, delivered}
 use Rattle.world.specs.Came.{Came, acted, taken, raw_sent, if_running, ruled, parent_acted, heard}
 use Rattle.world.specs.Stands.{side, state}
 use Rattle.world.proofs.Lists.{with_one, set_one, same_numbers, get_or-map-numbers, cut_more, cut_within}
-use Rattle.world.proofs.Waits.{contents, ups_in, downs_in, Behind, up_wrote, up_written, down_written, down_told, up_told, up_ends, down_ends, up_heard, down_heard}
+use Rattle.world.proofs.Waits.{contents, ups_in, downs_in, Behind, up_wrote, up_written, down_written, up_acted, down_acted, down_told, up_told, up_ends, down_ends, up_heard, down_heard}
 use Rattle.world.proofs.Delivered.{behind, all_delivered}
 use Rattle.world.proofs.LooksBack.{facts_with, seen_with, reads_said, reads_did}
 
@@ -127,20 +119,21 @@ acts c ms p action plain looked lt fine e1 e2 is =
     let sent : Option UpBundle = bundle_sent (seen_with c p ms looked.kept) looked.sends in
     let same : bundle_sent plain.kept plain.sends ≡ sent = ap₂ bundle_sent (sym is.kept) (sym is.sends) in
     let did : m.did ≡ for_one p looked.kept = ap (λ (s : take.Step (List Doing)). for_one p s.kept) (sym e2) in
-    let events : m.events ≡ for_one p (written sent) = ap (λ (s : take.Step (List Doing)). for_one p (written (bundle_sent (seen_with c p ms s.kept) s.sends))) (sym e2) in
+    let done : List ProcessEvent = written sent ++ deeds (seen_with c p ms looked.kept) looked.kept in
+    let events : m.events ≡ for_one p done = ap (λ (s : take.Step (List Doing)). for_one p (written (bundle_sent (seen_with c p ms s.kept) s.sends) ++ deeds (seen_with c p ms s.kept) s.kept)) (sym e2) in
     same_came
     (ap (λ (s : take.Step Seen). s.answer) (sym e1) ∙ sym is.answer ∙ ap (λ (s : take.Step (List Doing)). s.answer) e2)
     refl
     (ap (λ (s : take.Step Seen). sides_after p s (state c ms).sides) (sym e1) ∙ sides_moved c ms m p looked.kept plain.kept lt did (sym is.kept))
-    (ap (λ (s : take.Step Seen). ups_after p (sent_by s) (state c ms).ups) (sym e1) ∙ ap (λ o. ups_after p o (state c ms).ups) same ∙ ups_moved c ms m p sent (written sent) lt events (up_written sent (events_of p ms) fine))
-    (downs_still c ms m p (written sent) events (down_written sent (events_of p ms)))
+    (ap (λ (s : take.Step Seen). ups_after p (sent_by s) (state c ms).ups) (sym e1) ∙ ap (λ o. ups_after p o (state c ms).ups) same ∙ ups_moved c ms m p sent done lt events (up_acted sent (seen_with c p ms looked.kept) looked.kept (events_of p ms) fine))
+    (downs_still c ms m p done events (down_acted sent (seen_with c p ms looked.kept) looked.kept (events_of p ms)))
 
-pub own_set : (c : Config) (ms : List Moment) (p : ℕ) (x : ContextId) (t : Changes) → p < length c.types → Behind (events_of p ms)
-    → acted p (own.Set x t) (state c ms) ≡ record { answer = (act_moment c p (own.Set x t) ms).answer; state = state c (act_moment c p (own.Set x t) ms ∷ ms) }
-own_set c ms p x t lt fine =
-    acts c ms p (own.Set x t) (action_step (λ s. s) (seen_after p) p (own.Set x t) (seen_now c p ms)) (action_step (seen_with c p ms) (λ d did. d ∷ did) p (own.Set x t) [])
-    lt fine (ap (λ (s : Side). action_step (λ k. k) (seen_after s.process) s.process (own.Set x t) s.seen) (sym (at_side c ms p lt))) refl
-    (own_set_agrees p (seen_with c p ms) (λ d did. d ∷ did) (reads_did c p ms) x t [])
+pub own_act : (c : Config) (ms : List Moment) (p : ℕ) (action : Action) → p < length c.types → Behind (events_of p ms)
+    → acted p action (state c ms) ≡ record { answer = (act_moment c p action ms).answer; state = state c (act_moment c p action ms ∷ ms) }
+own_act c ms p action lt fine =
+    acts c ms p action (action_step (λ s. s) (seen_after p) p action (seen_now c p ms)) (action_step (seen_with c p ms) (λ d did. d ∷ did) p action [])
+    lt fine (ap (λ (s : Side). action_step (λ k. k) (seen_after s.process) s.process action s.seen) (sym (at_side c ms p lt))) refl
+    (own_action_agrees p (seen_with c p ms) (λ d did. d ∷ did) (reads_did c p ms) action [])
 
 -- ---- a step of a process that may have stopped
 
@@ -204,32 +197,14 @@ takes_one c ms p d rest plain looked lt fine waits e1 e2 is =
     (downs_less c ms m p (written sent ++ Takes d ∷ []) (contents rest) lt events
     (down_behind sent (Takes d) (events_of p ms) ∙ down_written sent (Takes d ∷ events_of p ms) ∙ ap contents (down_taken d rest (events_of p ms) waits)))
 
--- so far what waits is one commit, or tells the process to stop
-abbrev pub IsAlone : List DownPart → Type 0
-IsAlone (Commit x t ∷ []) = ⊤
-IsAlone (Kill ∷ []) = ⊤
-IsAlone _ = ⊥
-
--- a commit and a kill are taken alike in both readings
-taken_alike : (c : Config) (ms : List Moment) (p : ℕ) (b : DownBundle) → IsAlone b.parts
-    → Agrees (seen_with c p ms) (bundle_step (seen_with c p ms) (λ d did. d ∷ did) p b []) (bundle_step (λ s. s) (seen_after p) p b (seen_now c p ms))
-taken_alike c ms p b is = by b.parts refl is
-  where
-    by : (parts : List DownPart) → b.parts ≡ parts → IsAlone parts
-        → Agrees (seen_with c p ms) (bundle_step (seen_with c p ms) (λ d did. d ∷ did) p b []) (bundle_step (λ s. s) (seen_after p) p b (seen_now c p ms))
-    by (Commit x t ∷ []) e is = take_agrees p (seen_with c p ms) (λ d did. d ∷ did) (reads_did c p ms) b x t [] e
-    by (Kill ∷ []) e is = kill_agrees p (seen_with c p ms) (λ d did. d ∷ did) (reads_did c p ms) b [] e
-    by _ e is = absurd is
-
 pub own_take : (c : Config) (ms : List Moment) (p : ℕ) → p < length c.types → Behind (events_of p ms)
-    → ((d : Bundle DownBundle) (rest : List (Bundle DownBundle)) → bundles_waiting (events_of p ms) ≡ d ∷ rest → IsAlone d.content.parts)
     → (ds : List (Bundle DownBundle)) → bundles_waiting (events_of p ms) ≡ ds
     → taken p (contents ds) (state c ms) ≡ record { answer = (taken_moment c p ms ds).answer; state = state c (taken_moment c p ms ds ∷ ms) }
-own_take c ms p lt fine first [] waits = refl
-own_take c ms p lt fine first (d ∷ rest) waits =
+own_take c ms p lt fine [] waits = refl
+own_take c ms p lt fine (d ∷ rest) waits =
     takes_one c ms p d rest (bundle_step (λ s. s) (seen_after p) p d.content (seen_now c p ms)) (bundle_step (seen_with c p ms) (λ d did. d ∷ did) p d.content [])
     lt fine waits (ap (λ (s : Side). bundle_step (λ k. k) (seen_after s.process) s.process d.content s.seen) (sym (at_side c ms p lt))) refl
-    (taken_alike c ms p d.content (first d rest waits))
+    (take_agrees p (seen_with c p ms) (λ d did. d ∷ did) (reads_did c p ms) d.content [])
 
 -- ---- a bundle that is none of a process's own acts
 
@@ -293,14 +268,10 @@ abbrev ActsAs : Config → List Moment → ParentAction → Type 0
 ActsAs c ms action =
     parent_acted (length c.types) action (state c ms) ≡ record { answer = (action_looked c ms action).answer; state = state c (parent_moment c ms (action_looked c ms action) ∷ ms) }
 
-pub parent_acts : (c : Config) (ms : List Moment) (action : ParentAction) → IsPlayed (length c.types) action → ((q : ℕ) → q < length c.types → Behind (events_of q ms)) → ActsAs c ms action
-parent_acts c ms (Set x t) played fine =
-    acted_is c ms (action_looked c ms (Set x t)) (action_ruling (λ f. f) facts_after (length c.types) (Set x t) (facts_now c ms))
-    (set_meets (facts_with c ms) (λ y says. y ∷ says) (reads_said c ms) (length c.types) x t []) fine
-parent_acts c ms (KillAct p) played fine =
-    acted_is c ms (action_looked c ms (KillAct p)) (action_ruling (λ f. f) facts_after (length c.types) (KillAct p) (facts_now c ms))
-    (kill_meets (facts_with c ms) (λ y says. y ∷ says) (reads_said c ms) (length c.types) p []) fine
-parent_acts c ms _ played fine = absurd played
+pub parent_acts : (c : Config) (ms : List Moment) (action : ParentAction) → ((q : ℕ) → q < length c.types → Behind (events_of q ms)) → ActsAs c ms action
+parent_acts c ms action fine =
+    acted_is c ms (action_looked c ms action) (action_ruling (λ f. f) facts_after (length c.types) action (facts_now c ms))
+    (action_meets (facts_with c ms) (λ y says. y ∷ says) (reads_said c ms) (length c.types) action []) fine
 
 -- ---- a hear
 
@@ -337,14 +308,14 @@ module _ (c : Config) (ms : List Moment) (p : ℕ) (w : Written) (rest : List Wr
       ∙ ap (λ (t : Bool). ups_in ((if t then heard_events (length ms + 1) w looked.answer looked.kept (sent_to c ms looked p) else told (length ms + 1) looked.kept (sent_to c ms looked q) ∷ []) ++ events_of q ms)) (ne_eqb q p other)
       ∙ up_told (length ms + 1) looked.kept (sent_to c ms looked q) (events_of q ms))
 
-heard_is : (c : Config) (ms : List Moment) (allows : Field → Bool) (p : ℕ) (w : Written) (b : UpBundle) (rest : List Written) → p < length c.types → AreCommits b.parts
+heard_is : (c : Config) (ms : List Moment) (allows : Field → Bool) (p : ℕ) (w : Written) (b : UpBundle) (rest : List Written) → p < length c.types
     → writes_waiting (events_of p ms) ≡ w ∷ rest → ((q : ℕ) → q < length c.types → Behind (events_of q ms))
     → ruled (length c.types) (bundle_ruling (λ f. f) facts_after (length c.types) allows p b (facts_now c ms)) (record (state c ms) { ups = set (state c ms).ups p (bundles_in rest) })
     ≡ record { answer = (bundle_moment c p ms allows w b).answer; state = state c (bundle_moment c p ms allows w b ∷ ms) }
-heard_is c ms allows p w b rest lt commits waits fine =
+heard_is c ms allows p w b rest lt waits fine =
     let looked : Ruling (List Saying) = looked_at c ms allows p b in
     ruled_is c ms looked (bundle_ruling (λ f. f) facts_after (length c.types) allows p b (facts_now c ms)) (heard_all c p ms w looked) (set (state c ms).ups p (bundles_in rest))
-    (bundle_meets (facts_with c ms) (λ y says. y ∷ says) (reads_said c ms) (length c.types) allows p b [] commits)
+    (bundle_meets (facts_with c ms) (λ y says. y ∷ says) (reads_said c ms) (length c.types) allows p b [])
     (brings c ms p w rest looked lt waits fine) (ups_less c ms p w rest looked lt waits)
 
 -- the moment of a hear, by the bounds
@@ -356,6 +327,6 @@ pub parent_hear : (bounds : Bounds) (c : Config) (ms : List Moment) (p : ℕ) �
     → (ws : List Written) → writes_waiting (events_of p ms) ≡ ws → AllByRecursion IsUp ws
     → heard bounds (length c.types) p (bundles_in ws) (state c ms) ≡ record { answer = (hear_by bounds c p ms ws).answer; state = state c (hear_by bounds c p ms ws ∷ ms) }
 parent_hear bounds c ms p lt fine [] waits all = refl
-parent_hear bounds c ms p lt fine (Own b ∷ rest) waits all = heard_is c ms (allowed_of bounds b) p (Own b) b rest lt all.0 waits fine
-parent_hear bounds c ms p lt fine (Raw b ∷ rest) waits all = heard_is c ms (allowed_of bounds b) p (Raw b) b rest lt all.0 waits fine
+parent_hear bounds c ms p lt fine (Own b ∷ rest) waits all = heard_is c ms (allowed_of bounds b) p (Own b) b rest lt waits fine
+parent_hear bounds c ms p lt fine (Raw b ∷ rest) waits all = heard_is c ms (allowed_of bounds b) p (Raw b) b rest lt waits fine
 parent_hear bounds c ms p lt fine (Said says ∷ rest) waits all = absurd all.0

@@ -4,6 +4,8 @@ pub mod Delivered
 pub mod LooksBack
 pub mod Comes
 pub mod Few
+pub mod Commits
+pub mod Parts
 pub mod Readiness
 pub mod Steps
 pub mod AllCounts

@@ -19,7 +19,7 @@ use Rattle.model.specs.Settling.{settled}
 use Rattle.model.specs.View.{base, point, all_own, is_honest}
 use Rattle.model.proofs.Rounds.{goes_settled}
 use Rattle.model.proofs.RoundsGoes.{Goes}
-use Rattle.model.proofs.ShownLaws.{never_fall}
+use Rattle.model.proofs.FieldLaws.{never_fall}
 
 -- neither the base nor the point of an honest process fell from one journal to another
 pub record None_fell (c : Config) (old new : Journal) : Type 0 where

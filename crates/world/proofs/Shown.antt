@@ -15,7 +15,7 @@ use Rattle.model.specs.Journal.{Journal}
 use Rattle.model.specs.Links.{up_waiting, down_waiting, is_nothing}
 use Rattle.model.specs.Moments.{facts_now, seen_now, moments_of}
 use Rattle.model.specs.View.{view, parent_view, is_honest}
-use Rattle.model.proofs.ShownLaws.{process_shows}
+use Rattle.model.proofs.FieldLaws.{process_shows}
 use Rattle.world.specs.Came.{State}
 use Rattle.world.specs.Sides.{Side, no_side, side_of, sides_of, runs_at}
 use Rattle.world.specs.Stands.{side, state_of, Stands}

@@ -7,10 +7,12 @@ use Rattle.wire_msgs.specs.declared.answer.Answer.TheVariants.{Ended as EndedBy}
 use Rattle.wire_msgs.specs.declared.bundle.DownBundle.{DownBundle}
 use Rattle.wire_msgs.specs.declared.bundle.UpBundle.{UpBundle}
 use Rattle.protocol.specs.Sayings.{Saying}
+use Rattle.protocol.specs.Seen.{Seen, Doing}
+use Rattle.protocol.specs.Seen.Doing.{Framed, Went}
 use Rattle.traces.specs.Event.{Bundle}
 use Rattle.traces.specs.Event.Event.{Writes, Accepts, Ignores, Ends}
 use Rattle.traces.specs.Links.{writes, writes_waiting, hears, bundles_sent, bundles_waiting, takes}
-use Rattle.model.specs.Moments.{Written, ProcessEvent, is_end_of, ends, written, told, is_judged, heard}
+use Rattle.model.specs.Moments.{Written, ProcessEvent, is_end_of, ends, written, deeds, told, is_done, heard}
 use Rattle.model.specs.Moments.Written.{Own, Raw, Said}
 use Rattle.model.specs.Links.{bundles_in}
 use Rattle.world.proofs.Lists.{with_one, cut_with, cut_more}
@@ -50,6 +52,34 @@ up_written (Some b) h fine = up_wrote (Own b) h fine
 pub down_written : (o : Option UpBundle) (h : List ProcessEvent) → downs_in (written o ++ h) ≡ downs_in h
 down_written None h = refl
 down_written (Some b) h = refl
+
+-- what it makes and drops by itself isn't on a link
+up_deeds : (s : Seen) (did : List Doing) (h : List ProcessEvent) → ups_in (deeds s did ++ h) ≡ ups_in h
+up_deeds s [] h = refl
+up_deeds s (Framed x above ∷ did) h = up_deeds s did h
+up_deeds s (Went x ∷ did) h = up_deeds s did h
+up_deeds s (_ ∷ did) h = up_deeds s did h
+
+down_deeds : (s : Seen) (did : List Doing) (h : List ProcessEvent) → downs_in (deeds s did ++ h) ≡ downs_in h
+down_deeds s [] h = refl
+down_deeds s (Framed x above ∷ did) h = down_deeds s did h
+down_deeds s (Went x ∷ did) h = down_deeds s did h
+down_deeds s (_ ∷ did) h = down_deeds s did h
+
+behind_deeds : (s : Seen) (did : List Doing) (h : List ProcessEvent) → Behind h → Behind (deeds s did ++ h)
+behind_deeds s [] h fine = fine
+behind_deeds s (Framed x above ∷ did) h fine = let rest : Behind (deeds s did ++ h) = behind_deeds s did h fine in record { up = rest.up; down = rest.down }
+behind_deeds s (Went x ∷ did) h fine = let rest : Behind (deeds s did ++ h) = behind_deeds s did h fine in record { up = rest.up; down = rest.down }
+behind_deeds s (_ ∷ did) h fine = behind_deeds s did h fine
+
+-- so it sends what it sends
+pub up_acted : (o : Option UpBundle) (s : Seen) (did : List Doing) (h : List ProcessEvent) → Behind h → ups_in ((written o ++ deeds s did) ++ h) ≡ with_one o (ups_in h)
+up_acted None s did h fine = up_deeds s did h
+up_acted (Some b) s did h fine = up_wrote (Own b) (deeds s did ++ h) (behind_deeds s did h fine) ∙ ap (λ bs. bs ++ b ∷ []) (up_deeds s did h)
+
+pub down_acted : (o : Option UpBundle) (s : Seen) (did : List Doing) (h : List ProcessEvent) → downs_in ((written o ++ deeds s did) ++ h) ≡ downs_in h
+down_acted None s did h = down_deeds s did h
+down_acted (Some b) s did h = down_deeds s did h
 
 -- ---- the parent sends
 
@@ -91,7 +121,7 @@ pub up_heard : (k : ℕ) (w : Written) (a : Answer) (says : List Saying) (o : Op
     → writes_waiting h ≡ w ∷ rest → writes_waiting (heard k w a says o ++ h) ≡ rest
 up_heard k w (EndedBy cause) says None rest h waits = heard_less w rest h waits
 up_heard k w (EndedBy cause) says (Some d) rest h waits = heard_less w rest h waits
-up_heard k w a says None rest h waits = by (is_judged a)
+up_heard k w a says None rest h waits = by (is_done a)
   where
     by : (t : Bool) → writes_waiting ((if t then Accepts k w else Ignores k w) ∷ h) ≡ rest
     by true = heard_less w rest h waits
@@ -102,7 +132,7 @@ pub down_heard : (k : ℕ) (w : Written) (a : Answer) (says : List Saying) (o : 
     → downs_in (heard k w a says o ++ h) ≡ with_one o (downs_in h)
 down_heard k w (EndedBy cause) says None h fine = refl
 down_heard k w (EndedBy cause) says (Some d) h fine = sent_last k (hears h + 1) d h fine
-down_heard k w a says None h fine = by (is_judged a)
+down_heard k w a says None h fine = by (is_done a)
   where
     by : (t : Bool) → downs_in ((if t then Accepts k w else Ignores k w) ∷ h) ≡ downs_in h
     by true = refl

@@ -1,5 +1,5 @@
-ghost use Rattle.std.specs.Prelude.{◌≡◌, ℕ, ◌<◌, ◌≤◌, ◌∷◌, ◌&&◌, not, length, true, false, nat_lt, is_some};
-ghost use Rattle.std.specs.Prelude.{IfOk, IfSome, OnOk, None, Some};
+ghost use Rattle.std.specs.Prelude.{◌≡◌, ℕ, ◌<◌, ◌≤◌, ◌∷◌, ◌&&◌, not, filter, length, true, false};
+ghost use Rattle.std.specs.Prelude.{nat_lt, is_some, IfOk, IfSome, OnOk, None, Some};
 ghost use Rattle.fission_ids.specs.declared.context.ContextId.{ContextId};
 ghost use Rattle.field_table.specs.declared.field.Field.{Field};
 ghost use Rattle.field_rules.specs.RuleBounds.{bounds_of};
@@ -9,10 +9,10 @@ ghost use Rattle.wire_msgs.specs.declared.cause.EndCause.{EndCause};
 ghost use Rattle.wire_msgs.specs.declared.cause.EndCause.TheVariants.{Killed};
 ghost use Rattle.journal.specs.Step.{StepFits};
 ghost use Rattle.journal.specs.declared.entry.Step.TheVariants.{Take, Hear};
-ghost use Rattle.protocol.specs.Start.{is_held_at_start};
+ghost use Rattle.protocol.specs.Questions.{is_told};
 ghost use Rattle.content_core.specs.Content.{seen_of};
 ghost use Rattle.parent_core.specs.Parent.{facts_of};
-ghost use Rattle.model.specs.Laws.{RunFits, EndsAlone};
+ghost use Rattle.model.specs.Laws.{RunFits, EndsAlone, IsTheSame, frames_in};
 ghost use Rattle.model.specs.Links.{is_quiet, is_nothing, up_waiting, down_waiting};
 ghost use Rattle.model.specs.Moments.{facts_now, seen_now, moments_of};
 ghost use Rattle.model.specs.Settling.{moments_in};
@@ -83,7 +83,7 @@ impl World {
         // parent's value at the entry that sent it.
         ensures reverted { IfOk result (λ w. (p : ProcId) (x : ContextId) (f : Field) (k : ℕ) →
             step ≡ Take p → is_honest self.config p.0 self.journal ≡ true →
-            is_held_at_start self.config.tabs p.0 x ≡ true →
+            (seen_now w.config p.0 (moments_in w)).holds x ≡ true →
             sent_first self.config p.0 self.journal ≡ Some k →
             reverted_in (newest self.config p.0 x f self.journal) self.config p.0 x f self.journal ≡ Some k →
             view w.config p.0 x f w.journal ≡ Some (value_at self.config p.0 x f k self.journal)) }
@@ -168,14 +168,39 @@ impl World {
     }
 
     /// Whether nothing waits on either link of process p. If the process is honest and wasn't ended, it then
-    /// shows of each context that it holds what the parent shows.
+    /// holds exactly the live contexts that the parent tells it of, in the parent's order, says the same of
+    /// each, and shows what the parent shows.
     pub fn is_quiet(&self, p: ProcId) -> bool
         requires { p.0 < length self.now.config.types }
         ensures exact { result ≡ is_quiet self.now.config p.0 self.now.journal }
+        ensures holds { result ≡ true → is_honest self.now.config p.0 self.now.journal ≡ true →
+            (facts_now self.now.config (moments_in self.now)).processes.ended p.0 ≡ None →
+            (x : ContextId) → (seen_now self.now.config p.0 (moments_in self.now)).holds x ≡
+            ((facts_now self.now.config (moments_in self.now)).contexts.live x
+            && is_told (facts_now self.now.config (moments_in self.now)) p.0 x) }
+        // The group, the context above, and whether the process owns it.
+        ensures says { result ≡ true → is_honest self.now.config p.0 self.now.journal ≡ true →
+            (facts_now self.now.config (moments_in self.now)).processes.ended p.0 ≡ None →
+            (x : ContextId) → (seen_now self.now.config p.0 (moments_in self.now)).holds x ≡ true →
+            IsTheSame (facts_now self.now.config (moments_in self.now)) p.0
+            (seen_now self.now.config p.0 (moments_in self.now)) x }
+        ensures order { result ≡ true → is_honest self.now.config p.0 self.now.journal ≡ true →
+            (facts_now self.now.config (moments_in self.now)).processes.ended p.0 ≡ None →
+            (seen_now self.now.config p.0 (moments_in self.now)).order ≡
+            filter (λ x. is_told (facts_now self.now.config (moments_in self.now)) p.0 x)
+            (facts_now self.now.config (moments_in self.now)).contexts.order }
+        // The frames in a context, in the parent's order.
+        ensures frames { result ≡ true → is_honest self.now.config p.0 self.now.journal ≡ true →
+            (facts_now self.now.config (moments_in self.now)).processes.ended p.0 ≡ None →
+            (y : ContextId) → (seen_now self.now.config p.0 (moments_in self.now)).holds y ≡ true →
+            frames_in (seen_now self.now.config p.0 (moments_in self.now)).above
+            (seen_now self.now.config p.0 (moments_in self.now)).order y ≡
+            frames_in (facts_now self.now.config (moments_in self.now)).contexts.above
+            (facts_now self.now.config (moments_in self.now)).contexts.order y }
         ensures shows { result ≡ true → is_honest self.now.config p.0 self.now.journal ≡ true →
             (facts_now self.now.config (moments_in self.now)).processes.ended p.0 ≡ None →
             (x : ContextId) (f : Field) →
-            is_held_at_start self.now.config.tabs p.0 x ≡ true →
+            (seen_now self.now.config p.0 (moments_in self.now)).holds x ≡ true →
             view self.now.config p.0 x f self.now.journal ≡ parent_view self.now.config x f self.now.journal }
     {
         self.fits();

@@ -1,4 +1,4 @@
-use Rattle.model.proofs.ShownLaws.{only_killed}
+use Rattle.model.proofs.FieldLaws.{only_killed}
 use Rattle.model.proofs.laws.honest_are_only_killed.Goals as goal
 
 pub returns : goal.returns

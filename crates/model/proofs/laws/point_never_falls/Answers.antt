@@ -1,4 +1,4 @@
-use Rattle.model.proofs.ShownLaws.{never_fall}
+use Rattle.model.proofs.FieldLaws.{never_fall}
 use Rattle.model.proofs.laws.point_never_falls.Goals as goal
 
 pub returns : goal.returns

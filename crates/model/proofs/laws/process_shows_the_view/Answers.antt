@@ -1,4 +1,4 @@
-use Rattle.model.proofs.ShownLaws.{process_shows}
+use Rattle.model.proofs.FieldLaws.{process_shows}
 use Rattle.model.proofs.laws.process_shows_the_view.Goals as goal
 
 pub returns : goal.returns

@@ -1,4 +1,4 @@
-use Rattle.model.proofs.ShownLaws.{quiet_shows}
+use Rattle.model.proofs.FieldLaws.{quiet_shows}
 use Rattle.model.proofs.laws.quiet_shows_the_parent.Goals as goal
 
 pub returns : goal.returns

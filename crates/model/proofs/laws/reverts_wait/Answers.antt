@@ -1,4 +1,4 @@
-use Rattle.model.proofs.Reverted.{reverts_stand}
+use Rattle.model.proofs.FieldLaws.{reverts_stand}
 use Rattle.model.proofs.laws.reverts_wait.Goals as goal
 
 pub returns : goal.returns

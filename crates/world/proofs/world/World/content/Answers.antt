@@ -10,8 +10,7 @@ use Rattle.model.specs.Next.{Run}
 use Rattle.model.specs.Settling.{moments_in}
 use Rattle.model.specs.Laws.{RunFits}
 use Rattle.model.specs.View.{view, is_honest}
-use Rattle.model.proofs.Reverted.{reverts_stand}
-use Rattle.model.proofs.ShownLaws.{only_killed}
+use Rattle.model.proofs.FieldLaws.{reverts_stand, only_killed}
 use Rattle.world.specs.Sides.{side_of}
 use Rattle.world.specs.Stands.{side}
 use Rattle.world.proofs.Shown.{contents_count, held_at, shows_at, number_at, answers_at, is_there}

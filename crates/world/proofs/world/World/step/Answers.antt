@@ -4,16 +4,17 @@ use Rattle.journal.specs.Step.{StepFits}
 use Rattle.journal.specs.declared.entry.Step.{Step}
 use Rattle.model.specs.Journal.{Journal}
 use Rattle.model.specs.Laws.{RunFits, EndsAlone}
-use Rattle.model.specs.Moments.{moments_of}
+use Rattle.model.specs.Moments.{moments_of, seen_now}
 use Rattle.field_rules.specs.Bounds.{Bounds}
 use Rattle.field_rules.specs.RuleBounds.{bounds_of}
 use Rattle.journal.specs.declared.entry.Entry.{Entry}
+use Rattle.model.specs.Settling.{moments_in}
 use Rattle.model.specs.Next.{Run, run_after, run_with, moment_after, allowed_by}
 use Rattle.journal.specs.declared.entry.Step.TheVariants.{Take, Hear}
 use Rattle.model.specs.View.{base, point, view, value_at, is_honest}
 use Rattle.model.proofs.Ending.{end_alone}
 use Rattle.model.proofs.Reverted.{revert_shows}
-use Rattle.model.proofs.ShownLaws.{never_fall}
+use Rattle.model.proofs.FieldLaws.{never_fall}
 use Rattle.world.specs.Stands.{most_entries, state_of}
 use Rattle.world.proofs.Readiness.{ready}
 use Rattle.world.proofs.Steps.{stepped, run_is}
@@ -68,9 +69,12 @@ returns-clause-point g c p x f lt own =
 pub returns-clause-reverted : goal.returns-clause-reverted
 returns-clause-reverted g c p x f k is honest held sent reverted =
     subst (λ (r : Run). view r.config p.0 x f r.journal ≡ Some (value_at c.args.self.config p.0 x f k c.args.self.journal)) (sym (returns-clause-run g c))
-    (subst (λ (s : Step). RunFits (run_with c.args.self (entry_of (bounds_of c.args.rules.now) c.args.self s)) → view c.args.self.config p.0 x f (run_after (bounds_of c.args.rules.now) c.args.self s).journal ≡ Some (value_at c.args.self.config p.0 x f k c.args.self.journal)) (sym is)
-    (λ fits. revert_shows c.args.self (moment_after (bounds_of c.args.rules.now) c.args.self.config c.args.self.journal (Take p)).answer p x f k fits honest held sent reverted)
-    (fits_on (bounds_of c.args.rules.now) c.args.self c.args.step (subst RunFits c.self.view_is c.self.invariant.fits) c.requires.step))
+    (subst (λ (s : Step). RunFits (run_with c.args.self (entry_of (bounds_of c.args.rules.now) c.args.self s))
+    → (seen_now c.args.self.config p.0 (moments_in (run_after (bounds_of c.args.rules.now) c.args.self s))).holds x ≡ true
+    → view c.args.self.config p.0 x f (run_after (bounds_of c.args.rules.now) c.args.self s).journal ≡ Some (value_at c.args.self.config p.0 x f k c.args.self.journal)) (sym is)
+    (λ fits held. revert_shows c.args.self (moment_after (bounds_of c.args.rules.now) c.args.self.config c.args.self.journal (Take p)).answer p x f k fits honest held sent reverted)
+    (fits_on (bounds_of c.args.rules.now) c.args.self c.args.step (subst RunFits c.self.view_is c.self.invariant.fits) c.requires.step)
+    (subst (λ (r : Run). (seen_now r.config p.0 (moments_in r)).holds x ≡ true) (returns-clause-run g c) held))
 
 pub returns-clause-ends : goal.returns-clause-ends
 returns-clause-ends g c p cause is over =

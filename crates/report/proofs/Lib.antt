@@ -1,3 +1,4 @@
 pub mod Gathered
 pub mod Written
 pub mod Room
+pub mod Counting

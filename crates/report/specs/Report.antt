@@ -2,6 +2,7 @@
 use Rattle.std.specs.Prelude.{ℕ, ◌+◌, ◌-◌, if◌then◌else◌, List, [], ◌∷◌, ◌++◌, length, Option, Some, None}
 use Rattle.std.specs.Prelude.{codes}
 use Rattle.std.specs.Fmt.{decimal}
+use Rattle.std.specs.List.{flat_map}
 use Rattle.fission_ids.specs.declared.context.ContextId.{ContextId}
 use Rattle.fission_ids.specs.Ids.{context_text}
 use Rattle.field_table.specs.declared.field.Field.{Field}
@@ -11,20 +12,22 @@ use Rattle.field_rules.specs.Bounds.{Bounds, range, no_number}
 use Rattle.wire_msgs.specs.declared.answer.Answer.{Answer}
 use Rattle.wire_msgs.specs.declared.config.Config.{Config}
 use Rattle.journal.specs.declared.entry.Step.{Step}
+use Rattle.protocol.specs.Start.{numbers}
 use Rattle.report_words.specs.Pieces.{text_of_pieces, process_text}
 use Rattle.report_words.specs.Values.{value_text}
 use Rattle.report_words.specs.Words.{step_text, answer_text}
 use Rattle.scenario.specs.declared.line.Actor.{Actor}
 use Rattle.scenario.specs.declared.line.Actor.TheVariants as actors
 use Rattle.scenario.specs.declared.line.Show.{Show}
-use Rattle.scenario.specs.declared.line.Show.TheVariants.{One}
+use Rattle.scenario.specs.declared.line.Show.TheVariants.{One, Side, All}
 use Rattle.scenario.specs.declared.line.Line.{Line}
 use Rattle.scenario.specs.declared.line.Line.TheVariants as lines
 use Rattle.scenario.specs.declared.line.Scenario.{Scenario}
-use Rattle.model.specs.Moments.{moments_of, seen_now}
+use Rattle.model.specs.Moments.{moments_of, facts_now, seen_now}
 use Rattle.model.specs.View.{view, parent_view, is_honest}
 use Rattle.model.specs.Next.{Run, run_at_start, run_after, moment_after}
 use Rattle.model.specs.Settling.{settled}
+use Rattle.report.specs.Views.{type_at, parent_view_text, process_view_text}
 
 -- ---- the lines
 
@@ -82,6 +85,35 @@ abbrev pub value_shown : Run → Actor → ContextId → Field → Option Value
 value_shown r actors.Parent x f = parent_view r.config x f r.journal
 value_shown r (actors.Process p) x f = process_shows r p.0 x f
 
+-- all that a side has
+abbrev pub side_text : Run → Actor → List ℕ
+side_text r actors.Parent = parent_view_text r.config (facts_now r.config (moments_of r.config r.journal))
+side_text r (actors.Process p) =
+    process_view_text (type_at r.config p.0) (seen_now r.config p.0 (moments_of r.config r.journal))
+
+-- it, below the side's name
+abbrev pub named_side_text : Run → Actor → List ℕ
+named_side_text r who = text_of_pieces (actor_text who ∷ codes "\n" ∷ side_text r who ∷ [])
+
+-- that of a process
+abbrev pub process_side_text : Run → ℕ → List ℕ
+process_side_text r p = named_side_text r (actors.Process (record { 0 = p }))
+
+-- those of all processes, by rising number
+abbrev pub process_sides_text : Run → List ℕ
+process_sides_text r = flat_map (process_side_text r) (numbers 0 (length r.config.types))
+
+-- the n-th line, and below it all that a side has
+unfoldable pub show_side_text : ℕ → Run → Actor → List ℕ
+show_side_text n r who =
+    text_of_pieces (decimal n ∷ codes " " ∷ actor_text who ∷ codes " show\n" ∷ side_text r who ∷ [])
+
+-- the n-th line, and below it all that each side has
+unfoldable pub show_all_text : ℕ → Run → List ℕ
+show_all_text n r =
+    text_of_pieces (decimal n ∷ codes " show\n" ∷ named_side_text r actors.Parent ∷
+    process_sides_text r ∷ [])
+
 -- how many entries settling adds, by the bounds of the rule functions
 abbrev pub deliveries : Bounds → Run → ℕ
 deliveries b r = length (settled b r).journal - length r.journal
@@ -92,9 +124,11 @@ run_after_line b r (lines.Step step) = run_after b r step
 run_after_line b r lines.Settle = settled b r
 run_after_line b r (lines.Show show) = r
 
--- the line of what a side shows
+-- the lines of what is shown
 abbrev pub shown_text : ℕ → Run → Show → List ℕ
 shown_text n r (One who x f) = show_text n who x f (value_shown r who x f)
+shown_text n r (Side who) = show_side_text n r who
+shown_text n r All = show_all_text n r
 
 -- the n-th line
 abbrev pub line_text : Bounds → ℕ → Run → Line → List ℕ

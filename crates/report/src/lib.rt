@@ -8,6 +8,8 @@ mod lines;
 mod passing;
 mod playing;
 mod rules;
+mod sides;
+mod views;
 mod writing;
 
 pub use fault::ReportFault;

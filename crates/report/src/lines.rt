@@ -48,8 +48,9 @@ pub(crate) fn entry_line(
     Ok(format!(in alloc; "{mark} {step} {answer}\n")?)
 }
 
+// `parent`, or the process.
 #[tactic(auto, unfolding(crate::specs::Report::actor_text))]
-fn actor_words(alloc: Global, who: Actor) -> Result<String, OutOfMemory>
+pub(crate) fn actor_words(alloc: Global, who: Actor) -> Result<String, OutOfMemory>
     ensures { IfOk result (λ s. string_bytes s ≡ actor_text who) }
 {
     match who {

@@ -11,6 +11,7 @@ ghost use Rattle.report.specs.Report.{shown_text, end_text};
 
 use crate::fault::ReportFault;
 use crate::lines::{end_line, entry_line, head_line, settle_line, show_line};
+use crate::sides::{all_lines, side_lines};
 use edge::{Sink, write_all};
 use field_table::{Field, Value};
 use fission_ids::{ContextId, OutOfMemory, ProcId};
@@ -88,8 +89,28 @@ fn process_shows(world: &World, p: ProcId, context: ContextId, field: Field) -> 
     world.content(p)?.field(context, field)
 }
 
-/// Writes what one side shows of a field of a context. After an error a front of the line was written.
-/// `Failed` comes exactly where the sink failed.
+// The lines of what is shown.
+fn show_lines(alloc: Global, number: u64, world: &World, show: Show) -> Result<String, OutOfMemory>
+    requires { LineFits (length world.now.config.types) (lines.Show show) }
+    ensures { IfOk result (λ s. string_bytes s ≡ shown_text number world.now show) }
+{
+    match show {
+        Show::One {
+            who,
+            context,
+            field,
+        } => {
+            let value = value_shown(world, who, context, field);
+            show_line(alloc, number, who, context, field, value)
+        }
+        Show::Side { who } => side_lines(alloc, number, world, who),
+        Show::All => all_lines(alloc, number, world),
+    }
+}
+
+/// Writes what is shown: what one side shows of a field of a context, all that one side has, or all that each
+/// side has. The lines are made in memory first. After an error a front of them was written. `Failed` comes
+/// exactly where the sink failed.
 pub fn shown<K: Sink>(
     alloc: Global,
     number: u64,
@@ -102,13 +123,7 @@ pub fn shown<K: Sink>(
         (shown_text number world.now show) }
     ensures faults { CountsFault (K.faults sink.old) (K.faults sink.new) result }
 {
-    let Show::One {
-        who,
-        context,
-        field,
-    } = show;
-    let value = value_shown(world, who, context, field);
-    write_line(show_line(alloc, number, who, context, field, value), sink)
+    write_line(show_lines(alloc, number, world, show), sink)
 }
 
 /// Writes the last line: how many entries the journal has. After an error a front of it was written. `Failed`

@@ -3,3 +3,4 @@ pub mod Refusals
 pub mod Notes
 pub mod Values
 pub mod Words
+pub mod Views

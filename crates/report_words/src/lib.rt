@@ -11,11 +11,15 @@ mod notes;
 mod refusals;
 mod steps;
 mod values;
+mod views;
 
 pub use answers::answer_words;
 pub use items::process_words;
 pub use steps::step_words;
 pub use values::value_words;
+pub use views::{
+    field_words, held_words, is_initial, owner_words, process_line_words, run_words, share_words,
+};
 
 #[cfg(test)]
 mod tests;

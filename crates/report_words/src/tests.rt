@@ -142,3 +142,51 @@ fn texts_of_values(rt: HostRuntime) -> Result<(), Fail> {
     }
     Ok(())
 }
+
+#[test]
+fn texts_of_views(rt: HostRuntime) -> Result<(), Fail> {
+    let alloc = rt.alloc();
+    let top = ContextId {
+        creator: 0,
+        serial: 1,
+    };
+    let whose = owner_words(alloc, None)?;
+    let held = held_words(alloc, top, Some(GroupId(1)), None, whose.as_str())?;
+    assert_eq!(rt; held.as_str(), "c0.1 g1 - -");
+    let whose = owner_words(alloc, Some(ProcId(15)))?;
+    let held = held_words(alloc, CONTEXT, Some(GroupId(64)), Some(top), whose.as_str())?;
+    assert_eq!(rt; held.as_str(), "c1.2 g64 c0.1 p15");
+    assert_eq!(rt; share_words(alloc, true)?.as_str(), "own");
+    assert_eq!(rt; share_words(alloc, false)?.as_str(), "remote");
+    let p = ProcId(3);
+    let line = process_line_words(alloc, p, "web", None)?;
+    assert_eq!(rt; line.as_str(), "p3 web running");
+    let cause = EndCause::BadStamp { said: 9, sent: 0 };
+    let line = process_line_words(alloc, p, "file", Some(cause))?;
+    assert_eq!(rt; line.as_str(), "p3 file ended badstamp 9 0");
+    assert_eq!(rt; run_words(alloc, "web", true)?.as_str(), "web running");
+    assert_eq!(rt; run_words(alloc, "web", false)?.as_str(), "web stopped");
+    Ok(())
+}
+
+// Whether a field is at its first value.
+fn initial(field: Field, value: Value) -> bool {
+    is_initial(field, &value)
+}
+
+#[test]
+fn fields_at_their_first_values(rt: HostRuntime) -> Result<(), Fail> {
+    let alloc = rt.alloc();
+    for field in Field::ALL {
+        assert!(rt; initial(field, field.initial()));
+    }
+    assert!(rt; initial(Field::Name, Value::Words(Text::of(alloc, "")?)));
+    assert!(rt; !initial(Field::Name, Value::Words(Text::of(alloc, " ")?)));
+    assert!(rt; !initial(Field::AllowContentRetargeting, Value::Flag(false)));
+    assert!(rt; !initial(Field::FullZoom, Value::Number(0)));
+    assert!(rt; !initial(Field::OpenerId, Value::Number(CONTEXT.number())));
+    assert!(rt; !initial(Field::Muted, Value::Number(0)));
+    let zoom = field_words(alloc, Field::FullZoom, Some(&Value::Number(120)))?;
+    assert_eq!(rt; zoom.as_str(), "FullZoom 120");
+    Ok(())
+}

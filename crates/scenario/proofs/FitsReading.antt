@@ -1,6 +1,6 @@
 -- What holds of each scenario that is read.
 use Rattle.std.proofs.Common.{◌≡◌, ℕ, suc, ◌+◌, ◌<◌, ◌≤◌, Bool, true, false, ◌&&◌, cond, ltb, leb, nat_eq, lit≤, List, [], ◌∷◌, length, Option, Some, Result, Ok, Err, refl, ap, subst, arith}
-use Rattle.std.specs.Prelude.{⊤, IfOk, codes, option_and_then}
+use Rattle.std.specs.Prelude.{IfOk, codes, option_and_then}
 use Rattle.std.specs.List.{AllByRecursion}
 use Rattle.std.proofs.lemmas.Bool.{ltb-true, leb-true}
 use Rattle.serde_json.specs.Data.{Data, Items, no_items, item}
@@ -14,10 +14,11 @@ use Rattle.field_table.specs.declared.field.Field.{Field}
 use Rattle.transaction.specs.Transaction.{Changes}
 use Rattle.wire_msgs.specs.declared.config.StartTab.{StartTab}
 use Rattle.wire_msgs.specs.Config.{is_remote_type, IsRemoteType, TabFits}
+use Rattle.wire_msgs.specs.declared.action.Action.TheVariants as own
 use Rattle.wire_msgs.specs.declared.action.ParentAction.TheVariants as parents
 use Rattle.wire_msgs.specs.declared.part.UpPart.{UpPart}
 use Rattle.wire_msgs.specs.declared.part.UpPart.TheVariants as ups
-use Rattle.protocol.specs.Commits.{AreCommits}
+use Rattle.protocol.specs.Played.{IsPlayed, ArePlayed}
 use Rattle.journal.specs.Step.{StepFits}
 use Rattle.journal.specs.declared.entry.Step.TheVariants as steps
 use Rattle.scenario.specs.declared.fault.ReadFault.{ReadFault}
@@ -32,7 +33,7 @@ use Rattle.fission_ids.specs.Gives.{Gives}
 use Rattle.scenario.specs.Faults.{is_memory, ◌>>=◌, asks, or_shape}
 use Rattle.scenario.specs.declared.members.Kind.TheVariants as kinds
 use Rattle.scenario.specs.Members.{allows, has_only, is_text, whole_number}
-use Rattle.scenario.specs.Reading.{type_of, types_of, processes_of, process_of, items_in, process_numbers, all_differ, are_others, proc_set_of, also_of, start_tab_of, start_tabs_of, context_at, transaction_of, write_of, set_line, take_line, hear_line, kill_line, commit_part, raw_part, raw_parts, parts_of, raw_of, raw_line, settle_line, actor_of, field_of, show_line, line_of, lines_of, with_types, scenario_of, or_unread, data_of, reading}
+use Rattle.scenario.specs.Reading.{type_of, types_of, processes_of, process_of, items_in, process_numbers, all_differ, are_others, proc_set_of, also_of, start_tab_of, start_tabs_of, context_at, transaction_of, write_of, set_line, take_line, hear_line, frame_line, drop_line, discard_line, kill_line, commit_part, create_part, context_part, drop_part, ack_part, raw_part, raw_parts, parts_of, raw_of, raw_line, settle_line, actor_of, field_of, show_one, show_side, show_line, line_of, lines_of, with_types, scenario_of, or_unread, data_of, reading}
 use Rattle.scenario.specs.Fits.{ActorFits, LineFits, Fits}
 use Rattle.scenario.proofs.Also.{set_below, set_of_others}
 
@@ -215,6 +216,41 @@ hear_fits place n d l e =
     let p = bind_ok (process_of place n from) (λ p. Ok (lines.Step (steps.Hear p))) l b.1 in
     subst (λ (y : Line). LineFits n y) (ok_is (lines.Step (steps.Hear p.0)) l p.2) (process_below place n from p.0 p.1)
 
+frame_fits : (place n : ℕ) (d : Data) (l : Line) → frame_line place n d ≡ Ok l → LineFits n l
+unfolding frame_line
+frame_fits place n d l e =
+    let at = get (codes "at") d in
+    let found = context_at place (get (codes "context") d) in
+    let frame : ProcId → ContextId → Line = λ p x. lines.Step (steps.Act p (own.Frame x)) in
+    let framed : ProcId → Result Line ReadFault = λ p. found >>= λ x. Ok (frame p x) in
+    let a = asks_ok place (has_only (allows kinds.OneContext) d) (process_of place n at >>= framed) l e in
+    let p = bind_ok (process_of place n at) framed l a.1 in
+    let x = bind_ok found (λ x. Ok (frame p.0 x)) l p.2 in
+    subst (λ (y : Line). LineFits n y) (ok_is (frame p.0 x.0) l x.2) (record { process = process_below place n at p.0 p.1; played = tt })
+
+drop_fits : (place n : ℕ) (d : Data) (l : Line) → drop_line place n d ≡ Ok l → LineFits n l
+unfolding drop_line
+drop_fits place n d l e =
+    let at = get (codes "at") d in
+    let found = context_at place (get (codes "context") d) in
+    let drop : ProcId → ContextId → Line = λ p x. lines.Step (steps.Act p (own.Drop x)) in
+    let dropped : ProcId → Result Line ReadFault = λ p. found >>= λ x. Ok (drop p x) in
+    let a = asks_ok place (has_only (allows kinds.OneContext) d) (process_of place n at >>= dropped) l e in
+    let p = bind_ok (process_of place n at) dropped l a.1 in
+    let x = bind_ok found (λ x. Ok (drop p.0 x)) l p.2 in
+    subst (λ (y : Line). LineFits n y) (ok_is (drop p.0 x.0) l x.2) (record { process = process_below place n at p.0 p.1; played = tt })
+
+discard_fits : (place n : ℕ) (d : Data) (l : Line) → discard_line place d ≡ Ok l → LineFits n l
+unfolding discard_line
+discard_fits place n d l e =
+    let found = context_at place (get (codes "context") d) in
+    let discard : ContextId → Line = λ x. lines.Step (steps.ParentAct (parents.Discard x)) in
+    let discarded = found >>= λ x. Ok (discard x) in
+    let a = asks_ok place (has_only (allows kinds.OneContext) d) (asks place (is_text (codes "parent") (get (codes "at") d)) discarded) l e in
+    let b = asks_ok place (is_text (codes "parent") (get (codes "at") d)) discarded l a.1 in
+    let x = bind_ok found (λ x. Ok (discard x)) l b.1 in
+    subst (λ (y : Line). LineFits n y) (ok_is (discard x.0) l x.2) tt
+
 kill_fits : (place n : ℕ) (d : Data) (l : Line) → kill_line place n d ≡ Ok l → LineFits n l
 unfolding kill_line
 kill_fits place n d l e =
@@ -226,12 +262,7 @@ kill_fits place n d l e =
     let p = bind_ok (process_of place n process) (λ p. Ok (kill p)) l b.1 in
     subst (λ (y : Line). LineFits n y) (ok_is (kill p.0) l p.2) (process_below place n process p.0 p.1)
 
--- the part is a commit
-abbrev IsCommit : UpPart → Type 0
-IsCommit (ups.Commit x t) = ⊤
-IsCommit part = ⊥
-
-commit_part_fits : (place : ℕ) (d : Data) (part : UpPart) → commit_part place d ≡ Ok part → IsCommit part
+commit_part_fits : (place : ℕ) (d : Data) (part : UpPart) → commit_part place d ≡ Ok part → IsPlayed part
 unfolding commit_part
 commit_part_fits place d part e =
     let found = context_at place (get (codes "context") d) in
@@ -241,40 +272,61 @@ commit_part_fits place d part e =
     let a = asks_ok place (has_only (allows kinds.CommitPart) d) (found >>= read) part e in
     let x = bind_ok found read part a.1 in
     let t = bind_ok changed (λ t. Ok (commit x.0 t)) part x.2 in
-    subst (λ (y : UpPart). IsCommit y) (ok_is (commit x.0 t.0) part t.2) tt
+    subst (λ (y : UpPart). IsPlayed y) (ok_is (commit x.0 t.0) part t.2) tt
 
-part_fits : (place : ℕ) (d : Data) (part : UpPart) → raw_part place d ≡ Ok part → IsCommit part
+create_part_fits : (place : ℕ) (d : Data) (part : UpPart) → create_part place d ≡ Ok part → IsPlayed part
+unfolding create_part
+create_part_fits place d part e =
+    let found = context_at place (get (codes "context") d) in
+    let named = context_at place (get (codes "parent") d) in
+    let create : ContextId → ContextId → UpPart = λ x above. ups.Create x above in
+    let read : ContextId → Result UpPart ReadFault = λ x. named >>= λ above. Ok (create x above) in
+    let a = asks_ok place (has_only (allows kinds.CreatePart) d) (found >>= read) part e in
+    let x = bind_ok found read part a.1 in
+    let above = bind_ok named (λ above. Ok (create x.0 above)) part x.2 in
+    subst (λ (y : UpPart). IsPlayed y) (ok_is (create x.0 above.0) part above.2) tt
+
+drop_part_fits : (place : ℕ) (d : Data) (part : UpPart) → drop_part place d ≡ Ok part → IsPlayed part
+unfolding drop_part
+drop_part_fits place d part e =
+    let drop : ContextId → UpPart = λ x. ups.Drop x in
+    let x = bind_ok (context_part place d) (λ x. Ok (drop x)) part e in
+    subst (λ (y : UpPart). IsPlayed y) (ok_is (drop x.0) part x.2) tt
+
+ack_part_fits : (place : ℕ) (d : Data) (part : UpPart) → ack_part place d ≡ Ok part → IsPlayed part
+unfolding ack_part
+ack_part_fits place d part e =
+    let ack : ContextId → UpPart = λ x. ups.DropAck x in
+    let x = bind_ok (context_part place d) (λ x. Ok (ack x)) part e in
+    subst (λ (y : UpPart). IsPlayed y) (ok_is (ack x.0) part x.2) tt
+
+part_fits : (place : ℕ) (d : Data) (part : UpPart) → raw_part place d ≡ Ok part → IsPlayed part
 unfolding raw_part
 part_fits place d part e =
-    either IsCommit (is_text (codes "commit") (get (codes "part") d)) (commit_part place d) (Err (Shape place)) part (commit_part_fits place d part) (λ h. absurd cc) e
+    let named = get (codes "part") d in
+    let ack = cond (is_text (codes "ack") named) (ack_part place d) (Err (Shape place)) in
+    let drop = cond (is_text (codes "drop") named) (drop_part place d) ack in
+    let create = cond (is_text (codes "create") named) (create_part place d) drop in
+    let none : Err (Shape place) ≡ Ok part → IsPlayed part = λ h. absurd cc in
+    let acked : ack ≡ Ok part → IsPlayed part = either IsPlayed (is_text (codes "ack") named) (ack_part place d) (Err (Shape place)) part (ack_part_fits place d part) none in
+    let dropped : drop ≡ Ok part → IsPlayed part = either IsPlayed (is_text (codes "drop") named) (drop_part place d) ack part (drop_part_fits place d part) acked in
+    let created : create ≡ Ok part → IsPlayed part = either IsPlayed (is_text (codes "create") named) (create_part place d) drop part (create_part_fits place d part) dropped in
+    either IsPlayed (is_text (codes "commit") named) (commit_part place d) create part (commit_part_fits place d part) created e
 
--- the parts of the items
-record PartsFit (ds : Items) (parts : List UpPart) : Type 0 where
-  all : AllByRecursion IsCommit parts
-  len : length parts ≡ items_len ds
-
-parts_fit : (place : ℕ) (ds : Items) (parts : List UpPart) → raw_parts place ds ≡ Ok parts → PartsFit ds parts
+parts_fit : (place : ℕ) (ds : Items) (parts : List UpPart) → raw_parts place ds ≡ Ok parts → ArePlayed parts
 unfolding raw_parts
-parts_fit place no_items parts e = subst (λ (y : List UpPart). PartsFit no_items y) (ok_is [] parts e) (record { all = tt; len = refl })
+parts_fit place no_items parts e = subst (λ (y : List UpPart). ArePlayed y) (ok_is [] parts e) tt
 parts_fit place (item d ds) parts e =
     let a = bind_ok (raw_part place d) (λ part. raw_parts place ds >>= λ more. Ok (part ∷ more)) parts e in
     let b = bind_ok (raw_parts place ds) (λ more. Ok (a.0 ∷ more)) parts a.2 in
-    let rest = parts_fit place ds b.0 b.1 in
-    subst (λ (y : List UpPart). PartsFit (item d ds) y) (ok_is (a.0 ∷ b.0) parts b.2) (record { all = (part_fits place d a.0 a.1, rest.all); len = ap suc rest.len })
+    subst (λ (y : List UpPart). ArePlayed y) (ok_is (a.0 ∷ b.0) parts b.2) (part_fits place d a.0 a.1, parts_fit place ds b.0 b.1)
 
-are_commits : (parts : List UpPart) → AllByRecursion IsCommit parts → 0 < length parts → AreCommits parts
-are_commits [] all some = absurd (omega (arith, some))
-are_commits (ups.Commit x t ∷ []) all some = tt
-are_commits (ups.Commit x t ∷ part ∷ parts) all some = are_commits (part ∷ parts) all.1 (omega arith)
-are_commits (part ∷ parts) all some = absurd all.0
-
-bundle_fits : (place : ℕ) (found : Option Data) (parts : List UpPart) → parts_of place found ≡ Ok parts → AreCommits parts
+bundle_fits : (place : ℕ) (found : Option Data) (parts : List UpPart) → parts_of place found ≡ Ok parts → ArePlayed parts
 unfolding parts_of
 bundle_fits place found parts e =
     let a = bind_ok (or_shape place (option_and_then as_array found)) (λ ds. asks place (ltb 0 (items_len ds) && leb (items_len ds) 16) (raw_parts place ds)) parts e in
     let b = asks_ok place (ltb 0 (items_len a.0) && leb (items_len a.0) 16) (raw_parts place a.0) parts a.2 in
-    let fit = parts_fit place a.0 parts b.1 in
-    are_commits parts fit.all (omega (arith, fit.len, ltb-true 0 (items_len a.0) (first_true (ltb 0 (items_len a.0)) (leb (items_len a.0) 16) b.0)))
+    parts_fit place a.0 parts b.1
 
 raw_fits : (place n : ℕ) (d : Data) (l : Line) → raw_line place n d ≡ Ok l → LineFits n l
 unfolding raw_line
@@ -299,18 +351,33 @@ settle_fits place n d l e =
     let a = asks_ok place (has_only (allows kinds.Settle) d) (Ok lines.Settle) l e in
     subst (λ (y : Line). LineFits n y) (ok_is lines.Settle l a.1) tt
 
-show_fits : (place n : ℕ) (d : Data) (l : Line) → show_line place n d ≡ Ok l → LineFits n l
-unfolding show_line
-show_fits place n d l e =
+one_fits : (place n : ℕ) (d : Data) (l : Line) → show_one place n d ≡ Ok l → LineFits n l
+unfolding show_one
+one_fits place n d l e =
     let at = get (codes "at") d in
     let show : Actor → ContextId → Field → Line = λ who x f. lines.Show (shows.One who x f) in
     let named : Actor → ContextId → Result Line ReadFault = λ who x. field_of place (get (codes "field") d) >>= λ f. Ok (show who x f) in
     let found = context_at place (get (codes "context") d) in
-    let a = asks_ok place (has_only (allows kinds.Show) d) (actor_of place n at >>= λ who. found >>= named who) l e in
+    let a = asks_ok place (has_only (allows kinds.ShowOne) d) (actor_of place n at >>= λ who. found >>= named who) l e in
     let who = bind_ok (actor_of place n at) (λ who. found >>= named who) l a.1 in
     let x = bind_ok found (named who.0) l who.2 in
     let f = bind_ok (field_of place (get (codes "field") d)) (λ f. Ok (show who.0 x.0 f)) l x.2 in
     subst (λ (y : Line). LineFits n y) (ok_is (show who.0 x.0 f.0) l f.2) (actor_fits place n at who.0 who.1)
+
+side_fits : (place n : ℕ) (d : Data) (l : Line) → show_side place n d ≡ Ok l → LineFits n l
+unfolding show_side
+side_fits place n d l e =
+    let at = get (codes "at") d in
+    let side : Actor → Line = λ who. lines.Show (shows.Side who) in
+    let who = bind_ok (actor_of place n at) (λ who. Ok (side who)) l e in
+    subst (λ (y : Line). LineFits n y) (ok_is (side who.0) l who.2) (actor_fits place n at who.0 who.1)
+
+show_fits : (place n : ℕ) (d : Data) (l : Line) → show_line place n d ≡ Ok l → LineFits n l
+unfolding show_line
+show_fits place n d l e =
+    let parts = cond (has_only (allows kinds.ShowSide) d) (show_side place n d) (show_one place n d) in
+    let some : parts ≡ Ok l → LineFits n l = either (LineFits n) (has_only (allows kinds.ShowSide) d) (show_side place n d) (show_one place n d) l (side_fits place n d l) (one_fits place n d l) in
+    either (LineFits n) (has_only (allows kinds.ShowAll) d) (Ok (lines.Show shows.All)) parts l (λ h. subst (λ (y : Line). LineFits n y) (ok_is (lines.Show shows.All) l h) tt) some e
 
 line_fits : (place n : ℕ) (d : Data) (l : Line) → line_of place n d ≡ Ok l → LineFits n l
 unfolding line_of
@@ -320,14 +387,20 @@ line_fits place n d l e =
     let settle = cond (is_text (codes "settle") does) (settle_line place d) show in
     let raw = cond (is_text (codes "raw") does) (raw_line place n d) settle in
     let kill = cond (is_text (codes "kill") does) (kill_line place n d) raw in
-    let hear = cond (is_text (codes "hear") does) (hear_line place n d) kill in
+    let discard = cond (is_text (codes "discard") does) (discard_line place d) kill in
+    let drop = cond (is_text (codes "drop") does) (drop_line place n d) discard in
+    let frame = cond (is_text (codes "frame") does) (frame_line place n d) drop in
+    let hear = cond (is_text (codes "hear") does) (hear_line place n d) frame in
     let take = cond (is_text (codes "take") does) (take_line place n d) hear in
     let none : Err (Shape place) ≡ Ok l → LineFits n l = λ h. absurd cc in
     let shown : show ≡ Ok l → LineFits n l = either (LineFits n) (is_text (codes "show") does) (show_line place n d) (Err (Shape place)) l (show_fits place n d l) none in
     let settled : settle ≡ Ok l → LineFits n l = either (LineFits n) (is_text (codes "settle") does) (settle_line place d) show l (settle_fits place n d l) shown in
     let sent : raw ≡ Ok l → LineFits n l = either (LineFits n) (is_text (codes "raw") does) (raw_line place n d) settle l (raw_fits place n d l) settled in
     let ended : kill ≡ Ok l → LineFits n l = either (LineFits n) (is_text (codes "kill") does) (kill_line place n d) raw l (kill_fits place n d l) sent in
-    let heard : hear ≡ Ok l → LineFits n l = either (LineFits n) (is_text (codes "hear") does) (hear_line place n d) kill l (hear_fits place n d l) ended in
+    let discarded : discard ≡ Ok l → LineFits n l = either (LineFits n) (is_text (codes "discard") does) (discard_line place d) kill l (discard_fits place n d l) ended in
+    let dropped : drop ≡ Ok l → LineFits n l = either (LineFits n) (is_text (codes "drop") does) (drop_line place n d) discard l (drop_fits place n d l) discarded in
+    let framed : frame ≡ Ok l → LineFits n l = either (LineFits n) (is_text (codes "frame") does) (frame_line place n d) drop l (frame_fits place n d l) dropped in
+    let heard : hear ≡ Ok l → LineFits n l = either (LineFits n) (is_text (codes "hear") does) (hear_line place n d) frame l (hear_fits place n d l) framed in
     let taken : take ≡ Ok l → LineFits n l = either (LineFits n) (is_text (codes "take") does) (take_line place n d) hear l (take_fits place n d l) heard in
     either (LineFits n) (is_text (codes "set") does) (set_line place n d) take l (set_fits place n d l) taken e
 

@@ -19,6 +19,8 @@ abbrev pub LineFits : ℕ → Line → Type 0
 LineFits n (lines.Step step) = StepFits n step
 LineFits n lines.Settle = ⊤
 LineFits n (lines.Show (shows.One who context field)) = ActorFits n who
+LineFits n (lines.Show (shows.Side who)) = ActorFits n who
+LineFits n (lines.Show shows.All) = ⊤
 
 -- a run may begin so, and there are at most 20,000 steps, which can be played
 pub record Fits (s : Scenario) : Type 0 where

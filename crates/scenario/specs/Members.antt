@@ -19,12 +19,17 @@ object_keys kinds.Tab = codes "owner" ∷ codes "also" ∷ []
 object_keys kinds.Set = codes "do" ∷ codes "at" ∷ codes "context" ∷ codes "fields" ∷ []
 object_keys kinds.Take = codes "do" ∷ codes "at" ∷ []
 object_keys kinds.Hear = codes "do" ∷ codes "at" ∷ codes "from" ∷ []
+object_keys kinds.OneContext = codes "do" ∷ codes "at" ∷ codes "context" ∷ []
 object_keys kinds.Kill = codes "do" ∷ codes "at" ∷ codes "process" ∷ []
 object_keys kinds.Raw =
     codes "do" ∷ codes "at" ∷ codes "epoch" ∷ codes "seen" ∷ codes "parts" ∷ []
 object_keys kinds.CommitPart = codes "part" ∷ codes "context" ∷ codes "fields" ∷ []
+object_keys kinds.CreatePart = codes "part" ∷ codes "context" ∷ codes "parent" ∷ []
+object_keys kinds.ContextPart = codes "part" ∷ codes "context" ∷ []
 object_keys kinds.Settle = codes "do" ∷ []
-object_keys kinds.Show = codes "do" ∷ codes "at" ∷ codes "context" ∷ codes "field" ∷ []
+object_keys kinds.ShowOne = codes "do" ∷ codes "at" ∷ codes "context" ∷ codes "field" ∷ []
+object_keys kinds.ShowSide = codes "do" ∷ codes "at" ∷ []
+object_keys kinds.ShowAll = codes "do" ∷ []
 
 -- whether the key is one of these
 abbrev pub is_among : List (List ℕ) → List ℕ → Bool

@@ -175,6 +175,30 @@ hear_line place n d =
     (asks place (is_text (codes "parent") (get (codes "at") d))
     (process_of place n (get (codes "from") d) >>= λ p. Ok (lines.Step (steps.Hear p))))
 
+-- a frame that a process makes in a context
+unfoldable pub frame_line : ℕ → ℕ → Data → Result Line ReadFault
+frame_line place n d =
+    asks place (has_only (allows kinds.OneContext) d)
+    (process_of place n (get (codes "at") d) >>= λ p.
+    context_at place (get (codes "context") d) >>= λ context.
+    Ok (lines.Step (steps.Act p (own.Frame context))))
+
+-- a context that a process drops
+unfoldable pub drop_line : ℕ → ℕ → Data → Result Line ReadFault
+drop_line place n d =
+    asks place (has_only (allows kinds.OneContext) d)
+    (process_of place n (get (codes "at") d) >>= λ p.
+    context_at place (get (codes "context") d) >>= λ context.
+    Ok (lines.Step (steps.Act p (own.Drop context))))
+
+-- a context that the parent discards
+unfoldable pub discard_line : ℕ → Data → Result Line ReadFault
+discard_line place d =
+    asks place (has_only (allows kinds.OneContext) d)
+    (asks place (is_text (codes "parent") (get (codes "at") d))
+    (context_at place (get (codes "context") d) >>= λ context.
+    Ok (lines.Step (steps.ParentAct (parents.Discard context)))))
+
 -- a process that the parent ends
 unfoldable pub kill_line : ℕ → ℕ → Data → Result Line ReadFault
 kill_line place n d =
@@ -190,10 +214,34 @@ commit_part place d =
     (context_at place (get (codes "context") d) >>= λ context.
     transaction_of place (get (codes "fields") d) >>= λ t. Ok (ups.Commit context t))
 
--- a part of a bundle; so far it's a commit
+-- a frame that a bundle makes
+unfoldable pub create_part : ℕ → Data → Result UpPart ReadFault
+create_part place d =
+    asks place (has_only (allows kinds.CreatePart) d)
+    (context_at place (get (codes "context") d) >>= λ context.
+    context_at place (get (codes "parent") d) >>= λ above. Ok (ups.Create context above))
+
+-- the one context that a part names
+unfoldable pub context_part : ℕ → Data → Result ContextId ReadFault
+context_part place d =
+    asks place (has_only (allows kinds.ContextPart) d) (context_at place (get (codes "context") d))
+
+-- a context that a bundle drops
+unfoldable pub drop_part : ℕ → Data → Result UpPart ReadFault
+drop_part place d = context_part place d >>= λ context. Ok (ups.Drop context)
+
+-- a discard that a bundle acknowledges
+unfoldable pub ack_part : ℕ → Data → Result UpPart ReadFault
+ack_part place d = context_part place d >>= λ context. Ok (ups.DropAck context)
+
+-- a part of a bundle, by its kind
 unfoldable pub raw_part : ℕ → Data → Result UpPart ReadFault
 raw_part place d =
-    if is_text (codes "commit") (get (codes "part") d) then commit_part place d else Err (Shape place)
+    if is_text (codes "commit") (get (codes "part") d) then commit_part place d
+    else (if is_text (codes "create") (get (codes "part") d) then create_part place d
+    else (if is_text (codes "drop") (get (codes "part") d) then drop_part place d
+    else (if is_text (codes "ack") (get (codes "part") d) then ack_part place d
+    else Err (Shape place))))
 
 unfoldable pub raw_parts : ℕ → Items → Result (List UpPart) ReadFault
 raw_parts place no_items = Ok []
@@ -229,13 +277,24 @@ unfoldable pub field_of : ℕ → Option Data → Result Field ReadFault
 field_of place found = or_shape place (option_and_then field_of_name (option_and_then as_str found))
 
 -- a field of a context that is shown, as one side has it
-unfoldable pub show_line : ℕ → ℕ → Data → Result Line ReadFault
-show_line place n d =
-    asks place (has_only (allows kinds.Show) d)
+unfoldable pub show_one : ℕ → ℕ → Data → Result Line ReadFault
+show_one place n d =
+    asks place (has_only (allows kinds.ShowOne) d)
     (actor_of place n (get (codes "at") d) >>= λ who.
     context_at place (get (codes "context") d) >>= λ context.
     field_of place (get (codes "field") d) >>= λ f.
     Ok (lines.Show (shows.One who context f)))
+
+-- a whole side that is shown
+unfoldable pub show_side : ℕ → ℕ → Data → Result Line ReadFault
+show_side place n d =
+    actor_of place n (get (codes "at") d) >>= λ who. Ok (lines.Show (shows.Side who))
+
+-- what is shown, by the members that are there: all, a side, or a field of a context
+unfoldable pub show_line : ℕ → ℕ → Data → Result Line ReadFault
+show_line place n d =
+    if has_only (allows kinds.ShowAll) d then Ok (lines.Show shows.All)
+    else (if has_only (allows kinds.ShowSide) d then show_side place n d else show_one place n d)
 
 -- a step, by what it does
 unfoldable pub line_of : ℕ → ℕ → Data → Result Line ReadFault
@@ -243,11 +302,14 @@ line_of place n d =
     if is_text (codes "set") (get (codes "do") d) then set_line place n d
     else (if is_text (codes "take") (get (codes "do") d) then take_line place n d
     else (if is_text (codes "hear") (get (codes "do") d) then hear_line place n d
+    else (if is_text (codes "frame") (get (codes "do") d) then frame_line place n d
+    else (if is_text (codes "drop") (get (codes "do") d) then drop_line place n d
+    else (if is_text (codes "discard") (get (codes "do") d) then discard_line place d
     else (if is_text (codes "kill") (get (codes "do") d) then kill_line place n d
     else (if is_text (codes "raw") (get (codes "do") d) then raw_line place n d
     else (if is_text (codes "settle") (get (codes "do") d) then settle_line place d
     else (if is_text (codes "show") (get (codes "do") d) then show_line place n d
-    else Err (Shape place)))))))
+    else Err (Shape place))))))))))
 
 -- the steps from this place on, of which there are at most 20,000
 unfoldable pub lines_of : ℕ → ℕ → Items → Result (List Line) ReadFault

@@ -12,6 +12,7 @@ mod processes;
 mod raw;
 mod reading;
 mod steps;
+mod trees;
 
 pub use fault::ReadFault;
 pub use line::{Actor, Line, Scenario, Show};

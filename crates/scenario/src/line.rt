@@ -30,6 +30,13 @@ pub enum Show {
         /// The field, one that a scenario may name.
         field: Field,
     },
+    /// All that one side has.
+    Side {
+        /// The side.
+        who: Actor,
+    },
+    /// All that each side has.
+    All,
 }
 
 impl Duplicate for Show {

@@ -20,16 +20,26 @@ pub enum Kind {
     Take,
     /// A step that hears a bundle.
     Hear,
+    /// A step that speaks of a context and nothing else.
+    OneContext,
     /// A step that ends a process.
     Kill,
     /// A step that sends a bundle as it's written.
     Raw,
     /// A part of such a bundle, which writes fields.
     CommitPart,
+    /// A part of such a bundle, which makes a frame.
+    CreatePart,
+    /// A part of such a bundle that speaks of a context and nothing else.
+    ContextPart,
     /// A step that hears and takes all that waits.
     Settle,
     /// A step that shows a field.
-    Show,
+    ShowOne,
+    /// A step that shows a side.
+    ShowSide,
+    /// A step that shows all sides.
+    ShowAll,
 }
 
 /// Whether the value is an object and has no key that its kind doesn't name.
@@ -58,13 +68,17 @@ fn allows(kind: Kind, key: &str) -> bool
         Kind::Set => key == "do" || key == "at" || key == "context" || key == "fields",
         Kind::Take => key == "do" || key == "at",
         Kind::Hear => key == "do" || key == "at" || key == "from",
+        Kind::OneContext => key == "do" || key == "at" || key == "context",
         Kind::Kill => key == "do" || key == "at" || key == "process",
         Kind::Raw => {
             key == "do" || key == "at" || key == "epoch" || key == "seen" || key == "parts"
         }
         Kind::CommitPart => key == "part" || key == "context" || key == "fields",
-        Kind::Settle => key == "do",
-        Kind::Show => key == "do" || key == "at" || key == "context" || key == "field",
+        Kind::CreatePart => key == "part" || key == "context" || key == "parent",
+        Kind::ContextPart => key == "part" || key == "context",
+        Kind::Settle | Kind::ShowAll => key == "do",
+        Kind::ShowOne => key == "do" || key == "at" || key == "context" || key == "field",
+        Kind::ShowSide => key == "do" || key == "at",
     }
 }
 

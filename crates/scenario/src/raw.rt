@@ -3,13 +3,14 @@ ghost use Rattle.fission_ids.specs.Gives.{Gives};
 ghost use Rattle.scenario.specs.Faults.{is_memory, or_shape};
 ghost use Rattle.scenario.specs.Members.{data_found, whole_number};
 ghost use Rattle.scenario.specs.Reading.{raw_line, parts_of, raw_parts, raw_part, commit_part};
+ghost use Rattle.scenario.specs.Reading.{create_part, context_part, drop_part, ack_part};
 
 use crate::fault::ReadFault;
 use crate::fields::{context_at, transaction_of};
 use crate::line::Line;
 use crate::members::{Kind, has_only, is_text, whole_number};
 use crate::processes::{array_in, process_of};
-use fission_ids::{Epoch, Kept, Seq};
+use fission_ids::{ContextId, Epoch, Kept, Seq};
 use journal::Step;
 use serde_json::Value;
 use std::alloc::Global;
@@ -75,6 +76,12 @@ fn raw_part(alloc: Global, place: u32, v: &Value) -> Result<UpPart, ReadFault>
 {
     if is_text(v.get("part"), "commit") {
         commit_part(alloc, place, v)
+    } else if is_text(v.get("part"), "create") {
+        create_part(place, v)
+    } else if is_text(v.get("part"), "drop") {
+        drop_part(place, v)
+    } else if is_text(v.get("part"), "ack") {
+        ack_part(place, v)
     } else {
         Err(ReadFault::Shape { place })
     }
@@ -91,4 +98,43 @@ fn commit_part(alloc: Global, place: u32, v: &Value) -> Result<UpPart, ReadFault
     let fields = transaction_of(alloc, place, v.get("fields"))?;
     let change = Kept::of(alloc, fields)?;
     Ok(UpPart::Commit { context, change })
+}
+
+#[tactic(auto, unfolding(crate::specs::Reading::create_part))]
+fn create_part(place: u32, v: &Value) -> Result<UpPart, ReadFault>
+    ensures { Gives is_memory result (create_part place (view v.now)) }
+{
+    if !has_only(v, Kind::CreatePart) {
+        return Err(ReadFault::Shape { place });
+    }
+    let context = context_at(place, v.get("context"))?;
+    let parent = context_at(place, v.get("parent"))?;
+    Ok(UpPart::Create { context, parent })
+}
+
+// The one context that a part names.
+#[tactic(auto, unfolding(crate::specs::Reading::context_part))]
+fn context_part(place: u32, v: &Value) -> Result<ContextId, ReadFault>
+    ensures { Gives is_memory result (context_part place (view v.now)) }
+{
+    if !has_only(v, Kind::ContextPart) {
+        return Err(ReadFault::Shape { place });
+    }
+    context_at(place, v.get("context"))
+}
+
+#[tactic(auto, unfolding(crate::specs::Reading::drop_part))]
+fn drop_part(place: u32, v: &Value) -> Result<UpPart, ReadFault>
+    ensures { Gives is_memory result (drop_part place (view v.now)) }
+{
+    let context = context_part(place, v)?;
+    Ok(UpPart::Drop { context })
+}
+
+#[tactic(auto, unfolding(crate::specs::Reading::ack_part))]
+fn ack_part(place: u32, v: &Value) -> Result<UpPart, ReadFault>
+    ensures { Gives is_memory result (ack_part place (view v.now)) }
+{
+    let context = context_part(place, v)?;
+    Ok(UpPart::DropAck { context })
 }

@@ -4,7 +4,8 @@ ghost use Rattle.fission_ids.specs.Gives.{Gives};
 ghost use Rattle.scenario.specs.Faults.{is_memory};
 ghost use Rattle.scenario.specs.Members.{data_found};
 ghost use Rattle.scenario.specs.Reading.{lines_of, line_of, set_line, take_line, hear_line, kill_line};
-ghost use Rattle.scenario.specs.Reading.{settle_line, show_line, write_of, actor_of};
+ghost use Rattle.scenario.specs.Reading.{settle_line, write_of, actor_of};
+ghost use Rattle.scenario.specs.Reading.{show_line, show_side, show_one};
 
 use crate::fault::ReadFault;
 use crate::fields::{context_at, field_of, transaction_of};
@@ -12,6 +13,7 @@ use crate::line::{Actor, Line, Show};
 use crate::members::{Kind, has_only, is_text};
 use crate::processes::process_of;
 use crate::raw::raw_line;
+use crate::trees::{discard_line, drop_line, frame_line};
 use fission_ids::{ContextId, Kept, Seq};
 use journal::Step;
 use serde_json::Value;
@@ -50,6 +52,12 @@ fn line_of(alloc: Global, place: u32, count: u8, v: &Value) -> Result<Line, Read
         take_line(place, count, v)
     } else if is_text(v.get("do"), "hear") {
         hear_line(place, count, v)
+    } else if is_text(v.get("do"), "frame") {
+        frame_line(place, count, v)
+    } else if is_text(v.get("do"), "drop") {
+        drop_line(place, count, v)
+    } else if is_text(v.get("do"), "discard") {
+        discard_line(place, v)
     } else if is_text(v.get("do"), "kill") {
         kill_line(place, count, v)
     } else if is_text(v.get("do"), "raw") {
@@ -152,7 +160,28 @@ fn settle_line(place: u32, v: &Value) -> Result<Line, ReadFault>
 fn show_line(place: u32, count: u8, v: &Value) -> Result<Line, ReadFault>
     ensures { Gives is_memory result (show_line place count (view v.now)) }
 {
-    if !has_only(v, Kind::Show) {
+    if has_only(v, Kind::ShowAll) {
+        Ok(Line::Show(Show::All))
+    } else if has_only(v, Kind::ShowSide) {
+        show_side(place, count, v)
+    } else {
+        show_one(place, count, v)
+    }
+}
+
+#[tactic(auto, unfolding(crate::specs::Reading::show_side))]
+fn show_side(place: u32, count: u8, v: &Value) -> Result<Line, ReadFault>
+    ensures { Gives is_memory result (show_side place count (view v.now)) }
+{
+    let who = actor_of(place, count, v.get("at"))?;
+    Ok(Line::Show(Show::Side { who }))
+}
+
+#[tactic(auto, unfolding(crate::specs::Reading::show_one))]
+fn show_one(place: u32, count: u8, v: &Value) -> Result<Line, ReadFault>
+    ensures { Gives is_memory result (show_one place count (view v.now)) }
+{
+    if !has_only(v, Kind::ShowOne) {
         return Err(ReadFault::Shape { place });
     }
     let who = actor_of(place, count, v.get("at"))?;

@@ -47,7 +47,17 @@ const MOST: &str = r#"{
         {"at": 1, "do": "raw", "epoch": 18446744073709551615, "seen": 3, "parts": [
             {"part": "commit", "context": "c2.7", "fields": {"Muted": true, "Name": "b"}}
         ]},
-        {"do": "settle"}
+        {"do": "settle"},
+        {"at": 2, "do": "frame", "context": "c0.1"},
+        {"at": 0, "do": "drop", "context": "c3.1"},
+        {"at": "parent", "do": "discard", "context": "c16.4294967295"},
+        {"at": 2, "do": "raw", "epoch": 0, "seen": 18446744073709551615, "parts": [
+            {"part": "create", "context": "c3.240", "parent": "c3.1"},
+            {"part": "drop", "context": "c0.2"},
+            {"part": "ack", "context": "c1.9"}
+        ]},
+        {"at": "parent", "do": "show"},
+        {"do": "show"}
     ]
 }"#;
 
@@ -112,8 +122,21 @@ fn a_scenario_with_most_in_it(rt: HostRuntime) -> Result<(), Fail> {
         return Err("three tabs stand there")?;
     };
     assert!(rt; tab.owner == ProcId(1) && tab.also == ProcSet(0b101));
-    let [high, low, show, _, take, own, hear, kill, raw, settle] = scenario.lines.as_slice() else {
-        return Err("ten steps stand there")?;
+    let [
+        high,
+        low,
+        show,
+        _,
+        take,
+        own,
+        hear,
+        kill,
+        raw,
+        settle,
+        trees @ ..,
+    ] = scenario.lines.as_slice()
+    else {
+        return Err("ten steps stand there, and more")?;
     };
     let high = write(rt.alloc(), high)?;
     assert_eq!(rt;
@@ -140,7 +163,94 @@ fn a_scenario_with_most_in_it(rt: HostRuntime) -> Result<(), Fail> {
         "18446744073709551615 3 2 7 'b' - - - - - - true - - - - - - - -"
     );
     assert!(rt; matches!(settle, Line::Settle));
+    let [frame, drop, discard, parts, side, all] = trees else {
+        return Err("six steps stand behind them")?;
+    };
+    assert_eq!(rt; framed(frame), Some((2, id(0, 1))));
+    assert_eq!(rt; dropped(drop), Some((0, id(3, 1))));
+    assert_eq!(rt; discarded(discard), Some(id(16, 4_294_967_295)));
+    assert!(rt; sends_three_parts(parts));
+    assert_eq!(rt; shown(side), Some(Show::Side { who: Actor::Parent }));
+    assert_eq!(rt; shown(all), Some(Show::All));
     Ok(())
+}
+
+fn id(creator: u8, serial: u32) -> ContextId {
+    ContextId { creator, serial }
+}
+
+// The process that makes a frame, and the frame's parent.
+fn framed(line: &Line) -> Option<(u8, ContextId)> {
+    match line {
+        Line::Step(
+            Step::Act {
+                p,
+                action: Action::Frame { context },
+            },
+        ) => Some((p.0, *context)),
+        _ => None,
+    }
+}
+
+// The process that drops a context, and the context.
+fn dropped(line: &Line) -> Option<(u8, ContextId)> {
+    match line {
+        Line::Step(
+            Step::Act {
+                p,
+                action: Action::Drop { context },
+            },
+        ) => Some((p.0, *context)),
+        _ => None,
+    }
+}
+
+// The context that the parent discards.
+fn discarded(line: &Line) -> Option<ContextId> {
+    match line {
+        Line::Step(
+            Step::ParentAct {
+                action: ParentAction::Discard { context },
+            },
+        ) => Some(*context),
+        _ => None,
+    }
+}
+
+// What a line shows.
+fn shown(line: &Line) -> Option<Show> {
+    match line {
+        Line::Show(show) => Some(*show),
+        _ => None,
+    }
+}
+
+fn sends_three_parts(line: &Line) -> bool {
+    match line {
+        Line::Step(
+            Step::Raw {
+                p: ProcId(2),
+                bundle,
+            },
+        ) => makes_drops_and_acknowledges(bundle.parts.as_slice()),
+        _ => false,
+    }
+}
+
+fn makes_drops_and_acknowledges(parts: &[UpPart]) -> bool {
+    match parts {
+        [
+            UpPart::Create {
+                context: made,
+                parent,
+            },
+            UpPart::Drop { context: gone },
+            UpPart::DropAck { context: heard },
+        ] => {
+            *made == id(3, 240) && *parent == id(3, 1) && *gone == id(0, 2) && *heard == id(1, 9)
+        }
+        _ => false,
+    }
 }
 
 fn shows_display_mode(line: &Line) -> bool {
@@ -257,6 +367,23 @@ const STEPS: &str = r#"7
 {"do":"hear","at":"parent","from":"0"}
 {"do":"hear","at":"parent","from":0.0}
 {"do":"hear","at":"parent","from":0,"process":0}
+{"do":"frame","context":"c0.1"}
+{"do":"frame","at":0}
+{"do":"frame","at":"parent","context":"c0.1"}
+{"do":"frame","at":2,"context":"c0.1"}
+{"do":"frame","at":0,"context":"c0.0"}
+{"do":"frame","at":0,"context":"c0.1","parent":"c0.1"}
+{"do":"drop","context":"c0.1"}
+{"do":"drop","at":0}
+{"do":"drop","at":"parent","context":"c0.1"}
+{"do":"drop","at":2,"context":"c0.1"}
+{"do":"drop","at":0,"context":1}
+{"do":"drop","at":0,"context":"c0.1","fields":{"Muted":true}}
+{"do":"discard","context":"c0.1"}
+{"do":"discard","at":"parent"}
+{"do":"discard","at":0,"context":"c0.1"}
+{"do":"discard","at":"parent","context":"c17.1"}
+{"do":"discard","at":"parent","context":"c0.1","process":0}
 {"do":"kill","at":"parent"}
 {"do":"kill","process":0}
 {"do":"kill","at":0,"process":0}
@@ -271,6 +398,12 @@ const STEPS: &str = r#"7
 {"do":"show","context":"c0.1","field":"Muted"}
 {"do":"show","at":0,"context":"c0.1"}
 {"do":"show","at":0,"field":"Muted"}
+{"do":"show","context":"c0.1"}
+{"do":"show","field":"Muted"}
+{"do":"show","at":2}
+{"do":"show","at":"child"}
+{"do":"show","from":0}
+{"do":"show","at":0,"from":0}
 {"do":"show","at":2,"context":"c0.1","field":"Muted"}
 {"do":"show","at":"child","context":"c0.1","field":"Muted"}
 {"do":"show","at":0,"context":"w0.1","field":"Muted"}
@@ -321,9 +454,32 @@ const PARTS: &str = r#"7
 {"part":"commit","context":"c0.1","fields":{"Name":""},"url":"about:blank"}
 {"do":"commit","context":"c0.1","fields":{"Name":""}}
 {"part":"Commit","context":"c0.1","fields":{"Name":""}}
-{"part":"ack","context":"c0.1"}"#;
+{"part":"create","context":"c0.1"}
+{"part":"create","parent":"c0.1"}
+{"part":"create","context":"c0.0","parent":"c0.1"}
+{"part":"create","context":"c0.1","parent":0}
+{"part":"create","context":"c0.1","parent":"c0.1","owner":0}
+{"part":"drop"}
+{"part":"drop","context":"c0.1","parent":"c0.1"}
+{"part":"ack"}
+{"part":"ack","context":"w0.1"}
+{"part":"ack","context":"c0.1","fields":{"Name":""}}
+{"part":"gone","window":"w1.1"}"#;
 
 const RIGHT_PART: &str = r#"{"part":"commit","context":"c0.1","fields":{"Name":""}}"#;
+
+// The same with right parts of the other kinds.
+const RIGHT_PARTS: &str = r#"{"part":"create","context":"c1.1","parent":"c0.1"}
+{"part":"drop","context":"c16.4294967295"}
+{"part":"ack","context":"c0.1"}"#;
+
+// Steps that are right.
+const RIGHT_STEPS: &str = r#"{"do":"frame","at":1,"context":"c16.4294967295"}
+{"do":"drop","at":1,"context":"c0.1"}
+{"do":"discard","at":"parent","context":"c2.1"}
+{"do":"show","at":"parent"}
+{"do":"show","at":1}
+{"do":"show"}"#;
 
 // A member beside one that is right. Two texts have 65 bytes.
 const MEMBERS: &str = r#""CurrentInnerWindowId":1
@@ -401,6 +557,7 @@ fn places(rt: HostRuntime) -> Result<(), Fail> {
         (tab, TABS, later_tab, 100_001),
         (second_tab, TABS, later_tab, 100_002),
         (step, STEPS, ",7]}", 2),
+        (step, RIGHT_STEPS, ",7]}", 3),
         (context, CONTEXTS, later_fields, 2),
         (member, MEMBERS, "}},7]}", 2),
         (member, RIGHT_MEMBERS, "}},7]}", 3),
@@ -409,6 +566,7 @@ fn places(rt: HostRuntime) -> Result<(), Fail> {
         (raw, RAWS, "},7]}", 2),
         (parts.as_str(), PARTS, "]},7]}", 2),
         (parts.as_str(), RIGHT_PART, "]},7]}", 3),
+        (parts.as_str(), RIGHT_PARTS, "]},7]}", 3),
         (parts.as_str(), two.as_str(), "]},7]}", 2),
     ] {
         for text in cases.split('\n') {

@@ -1,5 +1,6 @@
 -- What the doings of contexts that come and go make of what a process keeps.
-use Rattle.std.proofs.Common.{◌≡◌, ◌∙◌, refl, sym, ap, ap₂, subst, ℕ, ◌+◌, ◌<◌, ◌==◌, Bool, true, false, not, ◌&&◌, if◌then◌else◌, Option, None, Some, arith, eq-eqb, true≢false}
+use Rattle.std.proofs.Common.{◌≡◌, ◌∙◌, refl, sym, ap, ap₂, subst, ℕ, ◌+◌, ◌<◌, ◌==◌, Bool, true, false, not, ◌&&◌, if◌then◌else◌, List, [], ◌∷◌, ◌++◌, length, map, take, get_or, Option, None, Some, arith, eq-eqb, true≢false}
+use Rattle.std.proofs.lemmas.List.{map-append, take_more}
 use Rattle.std.proofs.Math.Path.{fun_ext}
 use Rattle.std.specs.Prelude.{is_some}
 use Rattle.std.specs.FinMap.{get}
@@ -17,15 +18,15 @@ use Rattle.wire_msgs.specs.declared.note.Mark.{Mark}
 use Rattle.wire_msgs.specs.declared.note.Mark.TheVariants.{Done, Ignored}
 use Rattle.wire_msgs.specs.declared.note.PartNote.TheVariants as notes
 use Rattle.wire_msgs.specs.declared.part.DownPart.{DownPart}
-use Rattle.wire_msgs.specs.declared.part.DownPart.TheVariants.{Create, Discard, Kill}
+use Rattle.wire_msgs.specs.declared.part.DownPart.TheVariants.{Register, Create, Discard, Kill}
 use Rattle.wire_msgs.specs.declared.part.Known.{Known}
 use Rattle.protocol.specs.Fold.{behind_all}
-use Rattle.protocol.specs.Seen.{Seen}
+use Rattle.protocol.specs.Seen.{Seen, Doing}
 use Rattle.protocol.specs.Seen.Doing.{Came, Framed, Went}
 use Rattle.protocol.specs.SeenAfter.{seen_after, with_context}
 use Rattle.protocol.specs.Take.{may_come, option_all, note, says}
 use Rattle.content_core.specs.Content.{Kept, IsWhole, seen_of, hold_of}
-use Rattle.content_core.specs.Held.{Does, TakesPart, HoldsMore, HoldsLess}
+use Rattle.content_core.specs.Held.{Does, DoesAll, TakesPart, HoldsMore, HoldsLess}
 use Rattle.content_core.specs.declared.contexts.Contexts.{Contexts}
 use Rattle.content_core.specs.declared.hold.Hold.{Hold}
 use Rattle.content_core.proofs.Coming.{keeps, AreWhole, seen-put, whole-put}
@@ -131,6 +132,34 @@ grouped p n held x whole is none = by (hold_of x held.holds.entries) (whole.know
     by None some e = true≢false (sym some)
     by (Some h) some e = absurd (cc)
 
+-- ---- contexts are told, one after the other
+
+-- the last one of a list comes behind all before it
+all_and_one : {Saying Facts : Type 0} (next : Saying → Facts → Facts) (ys : List Saying) (y : Saying) (s : Facts) → behind_all next (ys ++ y ∷ []) s ≡ next y (behind_all next ys s)
+unfolding behind_all
+all_and_one next [] y s = refl
+all_and_one next (z ∷ ys) y s = all_and_one next ys y (next z s)
+
+pub come-none : (old : Kept) → IsWhole old → DoesAll [] old old
+unfolding behind_all
+come-none old whole = record { process = refl; taken = refl; seen = refl; whole = whole }
+
+pub come-next : (ks : List Known) (i : ℕ) (k : Known) (old now new : Kept) → i < length ks → k ≡ get_or ks i k
+    → DoesAll (map Came (take i ks)) old now → Does (Came k) now new → DoesAll (map Came (take (i + 1) ks)) old new
+come-next ks i k old now new within is all does =
+    let p : ℕ = old.process in
+    let grown : map Came (take (i + 1) ks) ≡ map Came (take i ks) ++ Came k ∷ [] =
+    ap (map Came) (take_more ks i k within) ∙ map-append Came (take i ks) _ ∙ ap (λ (q : Known). map Came (take i ks) ++ Came q ∷ []) (sym is) in
+    record {
+      process = does.process ∙ all.process;
+      taken = does.taken ∙ all.taken;
+      seen =
+          does.seen ∙ ap₂ (λ (q : ℕ) (s : Seen). seen_after q (Came k) s) all.process all.seen
+          ∙ sym (all_and_one (seen_after p) (map Came (take i ks)) (Came k) (seen_of old))
+          ∙ ap (λ (ys : List Doing). behind_all (seen_after p) ys (seen_of old)) (sym grown);
+      whole = does.whole;
+    }
+
 -- ---- a context goes
 
 pub does-went : (p : ℕ) (x : ContextId) (old new : Contexts) (n commits taken : ℕ) (running : Bool) → AreWhole p old n → HoldsLess x old new
@@ -146,6 +175,16 @@ does-went p x old new n commits taken running whole less = record {
 -- ---- the parts that tell of it
 
 module _ (part : DownPart) (e : ℕ) (old new : Kept) where
+  pub takes-register : (g : GroupId) (ks : List Known) → part ≡ Register g ks → DoesAll (map Came ks) old new → TakesPart part e (notes.Register g) old new
+  unfolding note says
+  takes-register g ks is does = subst (λ (q : DownPart). TakesPart q e (notes.Register g) old new) (sym is) (record {
+    process = does.process;
+    taken = does.taken;
+    seen = does.seen;
+    note = refl;
+    whole = does.whole;
+  })
+
   pub takes-create : (k : Known) (mark : Mark) → part ≡ Create k → Does (Came k) old new → mark ≡ (if may_come old.process (seen_of old) k then Done else Ignored)
       → TakesPart part e (notes.Create k.context mark) old new
   unfolding note says behind_all

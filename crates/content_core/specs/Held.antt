@@ -12,7 +12,7 @@ use Rattle.wire_msgs.specs.declared.note.PartNote.{PartNote}
 use Rattle.wire_msgs.specs.declared.part.DownPart.{DownPart}
 use Rattle.protocol.specs.Seen.{Doing}
 use Rattle.protocol.specs.SeenAfter.{seen_after}
-use Rattle.protocol.specs.Fold.{after_part, after_parts, notes_of}
+use Rattle.protocol.specs.Fold.{behind_all, after_part, after_parts, notes_of}
 use Rattle.protocol.specs.Start.{seen_at_start, nth_context, is_of_tab}
 use Rattle.protocol.specs.Take.{take_rules}
 use Rattle.content_core.specs.declared.contexts.Contexts.{Contexts}
@@ -80,6 +80,13 @@ pub record Does (did : Doing) (old new : Kept) : Type 0 where
   pub process : new.process ≡ old.process
   pub taken : new.taken ≡ old.taken
   pub seen : seen_of new ≡ seen_after old.process did (seen_of old)
+  pub whole : IsWhole new
+
+-- the answers behind are those behind doings, the first one first
+pub record DoesAll (dids : List Doing) (old new : Kept) : Type 0 where
+  pub process : new.process ≡ old.process
+  pub taken : new.taken ≡ old.taken
+  pub seen : seen_of new ≡ behind_all (seen_after old.process) dids (seen_of old)
   pub whole : IsWhole new
 
 -- a part is taken, in a bundle of an epoch

@@ -2,7 +2,7 @@
 use Rattle.std.specs.Prelude.{◌≡◌, ◌-◌, ◌^◌, ◌<◌, List, ⊤}
 use Rattle.std.specs.List.{AllByRecursion}
 use Rattle.wire_msgs.specs.declared.part.DownPart.{DownPart}
-use Rattle.wire_msgs.specs.declared.part.DownPart.TheVariants.{Create, Commit, Discard, Kill}
+use Rattle.wire_msgs.specs.declared.part.DownPart.TheVariants.{Register, Create, Commit, Discard, Kill}
 use Rattle.protocol.specs.Seen.{Seen}
 use Rattle.protocol.specs.Take.{Step, bundle_sent}
 use Rattle.content_core.specs.Content.{Kept, seen_of}
@@ -20,8 +20,9 @@ pub record Counts (k : Kept) : Type 0 where
   pub commits : k.commits < 2 ^ 64 - 1
   pub taken : k.taken < 2 ^ 64 - 1
 
--- so far a process is told of contexts that come and go, of fields, and to stop
+-- so far a process is told of groups, of contexts that come and go, of fields, and to stop
 abbrev pub IsTakenPart : DownPart → Type 0
+IsTakenPart (Register g contexts) = ⊤
 IsTakenPart (Create known) = ⊤
 IsTakenPart (Commit x t) = ⊤
 IsTakenPart (Discard x) = ⊤

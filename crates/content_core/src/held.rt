@@ -1,5 +1,5 @@
 ghost use Rattle.std.specs.Prelude.{◌≡◌, ◌+◌, ◌-◌, ◌^◌, ◌<◌, true, false, Some};
-ghost use Rattle.std.specs.Prelude.{IfOk, OnOk, if◌then◌else◌};
+ghost use Rattle.std.specs.Prelude.{map, IfOk, OnOk, if◌then◌else◌};
 ghost use Rattle.std.specs.Option.{option_copied};
 ghost use Rattle.context_store.specs.Content.{content_after_change, obsolete_at};
 ghost use Rattle.context_store.specs.Content.{stored_after_commit, stored_after_overlay};
@@ -11,7 +11,7 @@ ghost use Rattle.protocol.specs.OwnActs.{next_frame};
 ghost use Rattle.protocol.specs.Seen.Doing.{Came, Framed, Went, Wrote};
 ghost use Rattle.protocol.specs.Take.{may_come, option_all};
 ghost use Rattle.content_core.specs.Content.{seen_of, IsWhole};
-ghost use Rattle.content_core.specs.Held.{kept_of, Does, TakesPart};
+ghost use Rattle.content_core.specs.Held.{kept_of, Does, DoesAll, TakesPart};
 ghost use Rattle.content_core.specs.Steps.{notes_beside, commit_note};
 
 use crate::contexts::Contexts;
@@ -93,6 +93,17 @@ impl Held {
         self.contexts
             .put(known.context, known.parent, hold, fields)?;
         Ok(Mark::Done)
+    }
+
+    /// The process is told of contexts, one after the other.
+    pub(crate) fn come_all(&mut self, contexts: &[Known]) -> Result<(), OutOfMemory>
+        requires whole { IsWhole (kept_of self.old) }
+        ensures { OnOk result (DoesAll (map Came contexts.now) (kept_of self.old) (kept_of self.new)) }
+    {
+        for known in contexts {
+            self.come(known)?;
+        }
+        Ok(())
     }
 
     // Whether the process holds a context from when it is told of it.

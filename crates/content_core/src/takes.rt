@@ -51,6 +51,10 @@ impl Held {
         ensures { IfOk result (λ note. TakesPart part.now e.0 note (kept_of self.old) (kept_of self.new)) }
     {
         match part {
+            DownPart::Register { group, contexts } => {
+                self.come_all(contexts.as_slice())?;
+                Ok(PartNote::Register(*group))
+            }
             DownPart::Create { known } => {
                 let mark = self.come(known)?;
                 Ok(PartNote::Create(known.context, mark))

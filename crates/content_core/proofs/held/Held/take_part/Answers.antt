@@ -1,6 +1,14 @@
-use Rattle.content_core.specs.Held.{kept_of}
-use Rattle.content_core.proofs.Doings.{takes-create, takes-discard, takes-kill}
+use Rattle.std.proofs.Common.{subst, List, map}
+use Rattle.wire_msgs.specs.declared.part.Known.{Known}
+use Rattle.protocol.specs.Seen.Doing.{Came}
+use Rattle.content_core.specs.Held.{kept_of, DoesAll}
+use Rattle.content_core.proofs.Doings.{takes-register, takes-create, takes-discard, takes-kill}
 use Rattle.content_core.proofs.held.Held.take_part.Goals as goal
+
+pub returns-in_ok-come_all-in-Register : goal.returns-in_ok-come_all-in-Register
+returns-in_ok-come_all-in-Register c =
+    takes-register c.args.part.now c.args.e.0 (kept_of c.args.self.now) (kept_of c.come_all.new.self) c.in-Register.group c.in-Register.contexts c.in-Register.is
+    (subst (λ (ks : List Known). DoesAll (map Came ks) (kept_of c.args.self.now) (kept_of c.come_all.new.self)) c.as_slice.ensures c.in_ok-come_all-in-Register.ensures)
 
 pub returns-in_ok-mark-in-Create : goal.returns-in_ok-mark-in-Create
 returns-in_ok-mark-in-Create c =

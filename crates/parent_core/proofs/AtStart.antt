@@ -26,7 +26,7 @@ use Rattle.protocol.specs.Questions.{option_any}
 use Rattle.protocol.specs.ParentActs.{same_group}
 use Rattle.protocol.specs.Start.{contexts_of, facts_at_start, is_live, nth_context, numbers, processes_of_tab, some_if, tab_of}
 use Rattle.parent_core.specs.Membership.{group_of_tab, origin_of_tab}
-use Rattle.parent_core.specs.Parent.{Kept, Counted, HoldsAll, IsInRange, counted_of, facts_of, origin_of, is_known, group_in, above_in, owner_in, is_of_group, count_in}
+use Rattle.parent_core.specs.Parent.{Kept, Counted, CountsTabs, HoldsAll, IsInRange, counted_of, facts_of, origin_of, is_known, group_in, above_in, owner_in, is_of_group, count_in}
 use Rattle.parent_core.specs.declared.origin.Origin.{Origin}
 use Rattle.parent_core.proofs.Committed.{is_serial, among_live}
 use Rattle.parent_core.proofs.Facts.{same_contexts, same_facts, same_groups, same_processes}
@@ -101,7 +101,7 @@ module _ (config : Config) (fits : ConfigFits config) (nodes : List Node) (found
     (origins : List (ContextId × Origin)) (fixed : (x : ContextId) → origin_of x origins ≡ option_map (origin_of_tab x) (tab_of config.tabs x))
     (gs : List Group) (begun : gs ≡ map group_of_tab config.tabs) (processes : List Counted) where
   abbrev kept : Kept
-  kept = record { config = config; nodes = nodes; contexts = stored; origins = origins; groups = gs; processes = processes; ends = [] }
+  kept = record { config = config; nodes = nodes; contexts = stored; origins = origins; groups = gs; processes = processes; ends = []; tabs = length config.tabs }
 
   is_some_if : {A : Type 0} (b : Bool) (a : A) → is_some (some_if b a) ≡ b
   is_some_if true a = refl
@@ -208,20 +208,31 @@ module _ (config : Config) (fits : ConfigFits config) (nodes : List Node) (found
 
   -- ---- what holds
 
-  range : (x : ContextId) → is_known x origins ≡ true → IsInRange x
-  range x e =
+  numbered : (x : ContextId) → is_known x origins ≡ true → (x.creator ≡ 0) × ((1 ≤ x.serial) × (x.serial ≤ length config.tabs))
+  numbered x e =
       let n : ℕ = length config.tabs in
-      let few : length config.tabs ≤ 64 = fits.few_tabs in
       let among : (x.creator == 0 && is_serial n x.serial) ≡ true = among_live config.tabs x ∙ sym (known x) ∙ e in
       let parts : ((x.creator == 0) ≡ true) × (is_serial n x.serial ≡ true) = both_hold (x.creator == 0) (is_serial n x.serial) among in
       let creator : x.creator ≡ 0 = eqb-true x.creator 0 parts.0 in
-      let serial : (1 ≤ x.serial) × (x.serial ≤ n) = by (nat_lt 0 x.serial) refl (nat_lt (x.serial - 1) n) refl parts.1 in
-      record { creator = omega (arith, creator); from = serial.0; to = omega (arith, serial.1, few) }
+      (creator, by (nat_lt 0 x.serial) refl (nat_lt (x.serial - 1) n) refl parts.1)
     where
       by : (b : Bool) → nat_lt 0 x.serial ≡ b → (c : Bool) → nat_lt (x.serial - 1) (length config.tabs) ≡ c → (if b then c else false) ≡ true → (1 ≤ x.serial) × (x.serial ≤ length config.tabs)
       by true from true below e = let f : 0 < x.serial = ltb-true 0 x.serial from in let l : x.serial - 1 < length config.tabs = ltb-true (x.serial - 1) (length config.tabs) below in (omega (arith, f), omega (arith, f, l))
       by true from false below e = absurd (cc)
       by false from c below e = absurd (cc)
+
+  range : (x : ContextId) → is_known x origins ≡ true → IsInRange x
+  range x e =
+      let few : length config.tabs ≤ 64 = fits.few_tabs in
+      let number : (x.creator ≡ 0) × ((1 ≤ x.serial) × (x.serial ≤ length config.tabs)) = numbered x e in
+      record { creator = omega (arith, number.0); from = number.1.0; to = omega (arith, number.1.1, few) }
+
+  tabs_counted : CountsTabs (length config.tabs) origins
+  tabs_counted = record {
+    most = omega (arith, fits.few_tabs);
+    numbered = λ x e own. (numbered x e).1.1;
+    tops = λ x e top. (numbered x e).0;
+  }
 
   -- a live context is of the group with its number
   of_number : (g : GroupId) (y : ContextId) → list_any (same_context y) (contexts nodes) ≡ true → is_of_group g origins y ≡ has_serial g.0 y
@@ -257,6 +268,7 @@ module _ (config : Config) (fits : ConfigFits config) (nodes : List Node) (found
     live = counted;
     processes = len;
     ends = tt;
+    tabs = tabs_counted;
   }
     where
       at_top : (x : ContextId) (b : Bool) → option_and_then parent_of (some_if b (top_node x)) ≡ None

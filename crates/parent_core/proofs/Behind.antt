@@ -99,4 +99,5 @@ holds_ended k h p cause low sound = record {
   live = λ g. live_left p k.groups h.sound g ∙ h.live g;
   processes = h.processes;
   ends = (low, h.ends);
+  tabs = h.tabs;
 }

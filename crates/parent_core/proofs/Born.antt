@@ -1,5 +1,5 @@
 -- What the parent answers and keeps where a frame was made too late.
-use Rattle.std.proofs.Common.{◌≡◌, ℕ, ◌==◌, Bool, true, false, ◌&&◌, if◌then◌else◌, Option, None, Some, List, length, refl, sym, ap, ◌∙◌, subst}
+use Rattle.std.proofs.Common.{◌≡◌, ℕ, ◌≤◌, ◌==◌, Bool, true, false, ◌&&◌, if◌then◌else◌, Option, None, Some, List, length, refl, sym, ap, ◌∙◌, subst, arith}
 use Rattle.fission_ids.specs.declared.context.ContextId.{ContextId}
 use Rattle.fission_ids.specs.declared.group.GroupId.{GroupId}
 use Rattle.fission_ids.specs.declared.process.ProcSet.{ProcSet}
@@ -15,7 +15,7 @@ use Rattle.protocol.specs.Questions.{option_any}
 use Rattle.protocol.specs.ParentActs.{same_group}
 use Rattle.protocol.specs.Sayings.Saying.{BornDead}
 use Rattle.protocol.specs.FactsAfter.{facts_after, one_if}
-use Rattle.parent_core.specs.Parent.{Kept, HoldsAll, IsInRange, facts_of, origin_of, is_known, group_in, above_in, owner_in, owner_left}
+use Rattle.parent_core.specs.Parent.{Kept, CountsTabs, HoldsAll, IsInRange, facts_of, origin_of, is_known, group_in, above_in, owner_in, owner_left}
 use Rattle.parent_core.specs.declared.origin.Origin.{Origin}
 use Rattle.parent_core.proofs.Facts.{same_contexts, same_facts, same_groups}
 use Rattle.parent_core.proofs.Origins.{known_put, group_put, above_put, owner_put, apart, inside_put, count_stays, all_known}
@@ -42,6 +42,22 @@ module _ (k : Kept) (h : HoldsAll k) (p : ℕ) (x above : ContextId) (group : Gr
 
   pub group_same : (y : ContextId) → group_in y new ≡ (if same_context y x then group_in above k.origins else group_in y k.origins)
   group_same y = group_put k.origins new x (frame_of p group above) put y ∙ ap (λ (g : Option GroupId). if same_context y x then g else group_in y k.origins) (sym in_group)
+
+  -- the contexts that the parent made stay
+  pub tabs_put : 1 ≤ x.creator → CountsTabs k.tabs new
+  tabs_put from = record {
+    most = h.tabs.most;
+    numbered = λ y known own. below y own (same_context y x) refl (sym (known_same y) ∙ known);
+    tops = λ y known top. own y (same_context y x) (sym (known_same y) ∙ known) (sym (above_put k.origins new x (frame_of p group above) put y) ∙ top);
+  }
+    where
+      below : (y : ContextId) → y.creator ≡ 0 → (b : Bool) → same_context y x ≡ b → (if b then true else is_known y k.origins) ≡ true → y.serial ≤ k.tabs
+      below y none true e _ = let same : y.creator ≡ x.creator = ap (λ (z : ContextId). z.creator) (same_equal y x e) in absurd (omega (arith, none, same, from))
+      below y none false e was = h.tabs.numbered y was none
+
+      own : (y : ContextId) (b : Bool) → (if b then true else is_known y k.origins) ≡ true → (if b then Some above else above_in y k.origins) ≡ None → y.creator ≡ 0
+      own y true _ top = absurd (cc)
+      own y false was top = h.tabs.tops y was top
 
   module _ (who : ProcSet) (is : who ≡ one_if (has (group_at group k.groups).subscribers p) p) (gs : List Group) (done : gs ≡ more_awaited who x group k.groups) where
     pub facts_born : facts_of (record k { origins = new; groups = gs }) ≡ facts_after (BornDead p x above) (facts_of k)
@@ -80,8 +96,8 @@ module _ (k : Kept) (h : HoldsAll k) (p : ℕ) (x above : ContextId) (group : Gr
             ∙ ap (λ (s : ProcSet). if g.0 == group.0 && is_kept g k.groups then acks_with s x (group_at g k.groups).awaited else (group_at g k.groups).awaited) is
             ∙ sym (ap (by_group g) (ap (λ b. if b then group_in above k.origins else group_in x k.origins) (same_itself x) ∙ in_group))
 
-    pub holds_born : IsInRange x → AreSound gs → HoldsAll (record k { origins = new; groups = gs })
-    holds_born low sound = record {
+    pub holds_born : IsInRange x → 1 ≤ x.creator → AreSound gs → HoldsAll (record k { origins = new; groups = gs })
+    holds_born low from sound = record {
       config = h.config;
       tree = h.tree;
       sound = sound;
@@ -94,6 +110,7 @@ module _ (k : Kept) (h : HoldsAll k) (p : ℕ) (x above : ContextId) (group : Gr
           ∙ sym (count_stays k.origins new x (frame_of p group above) put fresh g (contexts k.nodes) (all_known k h));
       processes = h.processes;
       ends = h.ends;
+      tabs = tabs_put from;
     }
       where
         other : (y : ContextId) → is_held y k.nodes ≡ true → same_context y x ≡ false

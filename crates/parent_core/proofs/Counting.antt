@@ -26,4 +26,5 @@ holds_groups k gs h sound same = record {
   live = λ g. same g ∙ h.live g;
   processes = h.processes;
   ends = h.ends;
+  tabs = h.tabs;
 }

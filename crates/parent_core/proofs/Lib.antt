@@ -29,3 +29,7 @@ mod Bundles
 mod Placed
 mod PartFaults
 mod Drafted
+mod Opened
+mod Joined
+mod Told
+mod Openings

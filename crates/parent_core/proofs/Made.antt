@@ -1,5 +1,5 @@
 -- What the parent answers and keeps where a frame was made.
-use Rattle.std.proofs.Common.{◌≡◌, ℕ, ◌==◌, ◌+◌, ◌-◌, Bool, true, false, not, ◌||◌, cond, if◌then◌else◌, Option, None, Some, List, [], ◌∷◌, length, refl, sym, ap, ap₂, ◌∙◌, arith, length-set}
+use Rattle.std.proofs.Common.{◌≡◌, ℕ, ◌==◌, ◌+◌, ◌-◌, ◌≤◌, Bool, true, false, not, ◌||◌, cond, if◌then◌else◌, Option, None, Some, List, [], ◌∷◌, length, refl, sym, ap, ap₂, ◌∙◌, arith, length-set}
 use Rattle.std.specs.Prelude.{is_some, insert, option_and_then, unwrap_or}
 use Rattle.std.specs.List.{list_any}
 use Rattle.std.specs.Option.{option_map, option_map_or}
@@ -32,7 +32,7 @@ use Rattle.parent_core.specs.Parent.{Kept, End, HoldsAll, IsInRange, facts_of, o
 use Rattle.parent_core.specs.Contents.{value_at}
 use Rattle.parent_core.specs.declared.origin.Origin.{Origin}
 use Rattle.parent_core.proofs.Awaiting.{group_same as same_number}
-use Rattle.parent_core.proofs.Born.{frame_of, known_same, group_same, range_put}
+use Rattle.parent_core.proofs.Born.{frame_of, known_same, group_same, range_put, tabs_put}
 use Rattle.parent_core.proofs.Facts.{same_contexts, same_facts, same_groups}
 use Rattle.parent_core.proofs.Lists.{map_insert, passing, passing_insert}
 use Rattle.parent_core.proofs.Origins.{chosen, above_put, group_put, owner_put, inside_put, count_stays, all_known, unheld}
@@ -178,8 +178,8 @@ module _ (k : Kept) (h : HoldsAll k) (p : ℕ) (x above : ContextId) (group : Gr
             omega (arith, same)
         by false e = omega arith
 
-    pub holds_made : IsTree nodes → IsInRange x → AreSound gs → HoldsAll (record k { nodes = nodes; contexts = stored; origins = new; groups = gs })
-    holds_made tree low sound = record {
+    pub holds_made : IsTree nodes → IsInRange x → 1 ≤ x.creator → AreSound gs → HoldsAll (record k { nodes = nodes; contexts = stored; origins = new; groups = gs })
+    holds_made tree low from sound = record {
       config = h.config;
       tree = tree;
       sound = sound;
@@ -192,6 +192,7 @@ module _ (k : Kept) (h : HoldsAll k) (p : ℕ) (x above : ContextId) (group : Gr
       live = counted;
       processes = h.processes;
       ends = h.ends;
+      tabs = tabs_put k h p x above group new put fresh there in_group from;
     }
       where
         was : (y : ContextId) (b : Bool) → (if b then true else is_held y k.nodes) ≡ true → (if b then true else is_known y k.origins) ≡ true

@@ -106,3 +106,11 @@ frame_in_range before inside view h p x low frame =
       from = omega (arith, from);
       to = grind (arith, nat_tests, most);
     }
+
+-- and its creator isn't the parent
+pub frame_of_process : (p : ℕ) (x : ContextId) → is_new_frame p x ≡ true → 1 ≤ x.creator
+frame_of_process p x frame =
+    let first : ((x.creator == p + 1 && nat_lt 0 x.serial) ≡ true) × (nat_le x.serial 240 ≡ true) = both_hold (x.creator == p + 1 && nat_lt 0 x.serial) (nat_le x.serial 240) frame in
+    let second : ((x.creator == p + 1) ≡ true) × (nat_lt 0 x.serial ≡ true) = both_hold (x.creator == p + 1) (nat_lt 0 x.serial) first.0 in
+    let creator : x.creator ≡ p + 1 = eqb-true x.creator (p + 1) second.0 in
+    omega (arith, creator)

@@ -202,6 +202,7 @@ module _ (k : Kept) (h : HoldsAll k) (x : ContextId) (group : GroupId) (live : i
       live = counted;
       processes = h.processes;
       ends = h.ends;
+      tabs = h.tabs;
     }
       where
         was : (b c : Bool) → (if b then false else c) ≡ true → (b ≡ false) × (c ≡ true)

@@ -54,12 +54,14 @@ made_code =
     coded× (coded_list node_code)
     (coded× content_code (coded_list (coded× context.the_row.coded origin.the_row.coded)))
 
--- and of the groups and processes
+-- and of the groups and processes, and the count of the tabs
 abbrev pub Told : Type 0
-Told = List Group × (List Counted × List End)
+Told = List Group × (List Counted × (List End × ℕ))
 
 abbrev pub told_code : Coded Told
-told_code = coded× (coded_list group.the_row.coded) (coded× (coded_list counted_code) (coded_list end_code))
+told_code =
+    coded× (coded_list group.the_row.coded)
+    (coded× (coded_list counted_code) (coded× (coded_list end_code) coded_ℕ))
 
 -- what is kept is coded as its parts
 abbrev pub kept_code : Coded Kept
@@ -67,7 +69,7 @@ kept_code =
     code_by
     (Config × (Made × Told))
     (coded× config.the_row.coded (coded× made_code told_code))
-    (λ k. (k.config, ((k.nodes, (k.contexts, k.origins)), (k.groups, (k.processes, k.ends)))))
+    (λ k. (k.config, ((k.nodes, (k.contexts, k.origins)), (k.groups, (k.processes, (k.ends, k.tabs))))))
     (λ p. record {
       config = p.0;
       nodes = p.1.0.0;
@@ -75,6 +77,7 @@ kept_code =
       origins = p.1.0.1.1;
       groups = p.1.1.0;
       processes = p.1.1.1.0;
-      ends = p.1.1.1.1;
+      ends = p.1.1.1.1.0;
+      tabs = p.1.1.1.1.1;
     })
     (λ _. refl)

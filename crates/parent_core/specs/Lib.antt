@@ -10,3 +10,4 @@ pub mod Sound
 pub mod Membership
 pub mod Envelopes
 pub mod Drafts
+pub mod Opening

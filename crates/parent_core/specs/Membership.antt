@@ -1,11 +1,13 @@
 -- What becomes of the groups with the contexts that come and go, and what the tabs of the start make.
-use Rattle.std.specs.Prelude.{◌≡◌, ℕ, zero, suc, List, [], None, Bool, true, if◌then◌else◌}
+use Rattle.std.specs.Prelude.{◌≡◌, ℕ, zero, suc, ◌<◌, List, [], ◌∷◌, ◌++◌, Bool, true, if◌then◌else◌}
+use Rattle.std.specs.Prelude.{Option, None, Some}
 use Rattle.fission_ids.specs.declared.context.ContextId.{ContextId}
 use Rattle.fission_ids.specs.declared.group.GroupId.{GroupId}
 use Rattle.fission_ids.specs.declared.process.ProcSet.{ProcSet}
 use Rattle.fission_ids.specs.ProcSet.{has, with}
 use Rattle.context_group.specs.declared.group.Group.{Group}
-use Rattle.context_group.specs.Groups.{at_group, group_after_shrink, group_after_subscribe, group_at}
+use Rattle.context_group.specs.Groups.{at_group, group_after_grow, group_after_shrink}
+use Rattle.context_group.specs.Groups.{group_after_subscribe, group_at, is_kept}
 use Rattle.context_group.specs.Groups.{new_group, IsMade}
 use Rattle.wire_msgs.specs.declared.config.StartTab.{StartTab}
 use Rattle.protocol.specs.Start.{processes_of_tab}
@@ -34,9 +36,19 @@ pub record IsBegun (g : GroupId) (gs : List Group) : Type 0 where
   pub made : IsMade g gs
   pub new : group_at g gs ≡ new_group
 
+-- a group that is kept and has room for a live context
+pub record HasRoom (gs : List Group) (g : GroupId) : Type 0 where
+  pub kept : is_kept g gs ≡ true
+  pub room : (group_at g gs).live < 4080
+
 -- a group with these subscribers and one live context
 abbrev pub group_begun : ProcSet → Group
 group_begun s = record { subscribers = s; awaited = []; live = 1; is_kept = true }
+
+-- the groups with one live context more in the group that is named, or in a new one
+abbrev pub groups_opened : Option GroupId → List Group → List Group
+groups_opened None gs = gs ++ group_begun (record { 0 = 0 }) ∷ []
+groups_opened (Some g) gs = at_group group_after_grow g gs
 
 -- what a tab of the start makes: a group, and what is fixed of its context
 abbrev pub group_of_tab : StartTab → Group

@@ -15,7 +15,7 @@ use Rattle.context_store.specs.Content.{Content, is_there}
 use Rattle.wire_msgs.specs.Config.{ConfigFits}
 use Rattle.wire_msgs.specs.declared.config.Config.{Config}
 use Rattle.wire_msgs.specs.declared.action.ParentAction.{ParentAction}
-use Rattle.wire_msgs.specs.declared.action.ParentAction.TheVariants.{Set, Discard, Kill}
+use Rattle.wire_msgs.specs.declared.action.ParentAction.TheVariants.{Set, Tab, Subscribe, Discard, Kill}
 use Rattle.wire_msgs.specs.declared.cause.EndCause.{EndCause}
 use Rattle.protocol.specs.Questions.{Facts, option_any}
 use Rattle.protocol.specs.ParentActs.{same_group}
@@ -33,7 +33,8 @@ pub record End : Type 0 where
   pub cause : EndCause
 
 -- its configuration, the tree of the live contexts, their fields, what was fixed when each context was made,
--- live or not, the groups, the counts of each process, and the processes that were ended, the newest first
+-- live or not, the groups, the counts of each process, the processes that were ended, the newest first, and
+-- how many contexts the parent made
 pub record Kept : Type 0 where
   pub config : Config
   pub nodes : List Node
@@ -42,6 +43,7 @@ pub record Kept : Type 0 where
   pub groups : List Group
   pub processes : List Counted
   pub ends : List End
+  pub tabs : ℕ
 
 -- ---- what was fixed when a context was made
 
@@ -122,7 +124,7 @@ facts_of k = record {
     bundles_sent = λ p. (counted_of p k.processes).sent;
     last_load = λ p x. 0;  -- so far nothing is loaded
   };
-  tabs_made = length k.config.tabs;  -- so far no tab is made behind the start
+  tabs_made = k.tabs;
 }
 
 -- ---- what holds of all that is kept
@@ -132,6 +134,12 @@ pub record IsInRange (x : ContextId) : Type 0 where
   pub creator : x.creator ≤ 16
   pub from : 1 ≤ x.serial
   pub to : x.serial ≤ 240
+
+-- the contexts that the parent made are numbered up to their count, and each top-level context is of them
+pub record CountsTabs (tabs : ℕ) (origins : List (ContextId × Origin)) : Type 0 where
+  pub most : tabs ≤ 240
+  pub numbered : (x : ContextId) → is_known x origins ≡ true → x.creator ≡ 0 → x.serial ≤ tabs
+  pub tops : (x : ContextId) → is_known x origins ≡ true → above_in x origins ≡ None → x.creator ≡ 0
 
 -- there are fields of the contexts in the tree, and of no other. Each was made in the context that it hangs
 -- from. A frame has the group of the context that it was made in, and a group counts its live contexts.
@@ -148,10 +156,14 @@ pub record HoldsAll (k : Kept) : Type 0 where
   pub live : (g : GroupId) → (group_at g k.groups).live ≡ count_in g k.origins (contexts k.nodes)
   pub processes : length k.processes ≡ length k.config.types
   pub ends : AllByRecursion (λ e. e.process < 16) k.ends
+  pub tabs : CountsTabs k.tabs k.origins
 
--- so far the parent writes fields, discards contexts, and kills one of its n processes
+-- so far the parent writes fields, opens tabs for its n processes, subscribes them, discards contexts, and
+-- kills processes
 abbrev pub IsPlayed : ℕ → ParentAction → Type 0
 IsPlayed n (Set x t) = ⊤
+IsPlayed n (Tab p named) = p.0 < n
+IsPlayed n (Subscribe p g) = p.0 < n
 IsPlayed n (Discard x) = ⊤
 IsPlayed n (Kill p) = p.0 < n
 IsPlayed n action = ⊥

@@ -27,6 +27,8 @@ impl Parent {
     {
         match action {
             ParentAction::Set { context, fields } => self.set(context, fields.into_inner()),
+            ParentAction::Tab { owner, group } => self.tab(owner, group),
+            ParentAction::Subscribe { process, group } => self.join(process, group),
             ParentAction::Discard { context } => self.discard(context),
             ParentAction::Kill { process } => self.kill(process),
             _ => unreachable!(),
@@ -68,7 +70,7 @@ impl Parent {
         let alloc = self.alloc();
         self.has_few_processes();
         let mut posts = Vec::new(alloc);
-        post_commit(alloc, self.subscribers(x), x, &t, &mut posts)?;
+        post_commit(alloc, self.told_of(x), x, &t, &mut posts)?;
         self.write(x, t).finish(Answer::Done, posts.as_slice())
     }
 
@@ -99,7 +101,7 @@ impl Parent {
         let mut posts = Vec::new(alloc);
         post_part(
             alloc,
-            self.subscribers(x),
+            self.told_of(x),
             DownPart::Discard { context: x },
             &mut posts,
         )?;
@@ -140,8 +142,8 @@ impl Parent {
         self.note_end(p, cause)?.finish(answer, posts.as_slice())
     }
 
-    // An action is refused.
-    fn refuse(self, why: Refusal) -> Ruled
+    /// An action is refused.
+    pub(crate) fn refuse(self, why: Refusal) -> Ruled
         ensures { result ≡ record { core = self; answer = Answer.Refused why; sent = [] } }
     {
         let sent = Seq::new(self.alloc());

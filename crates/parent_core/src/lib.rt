@@ -12,6 +12,7 @@ mod hanging;
 mod hearing;
 mod judging;
 mod membership;
+mod opening;
 mod origin;
 mod parent;
 mod parts;

@@ -1,12 +1,14 @@
 ghost use Rattle.std.specs.Prelude.{◌≡◌, ℕ, ◌<◌, ◌≤◌, ◌++◌, ◌∷◌, [], length, map, true, false};
-ghost use Rattle.std.specs.Prelude.{if◌then◌else◌, OnOk, MatchOption, ⊤};
+ghost use Rattle.std.specs.Prelude.{◌+◌, if◌then◌else◌, unwrap_or, IfOk, OnOk, MatchOption, ⊤};
 ghost use Rattle.std.specs.Option.{option_map_or};
 ghost use Rattle.context_group.specs.Sets.{set_without};
 ghost use Rattle.context_group.specs.Groups.{at_group, group_after_ack, group_after_await, group_after_drop};
-ghost use Rattle.context_group.specs.Groups.{group_after_grow, group_at, is_kept, AreSound, IsMade};
+ghost use Rattle.context_group.specs.Groups.{group_after_grow, group_after_subscribe, group_at, is_kept};
+ghost use Rattle.context_group.specs.Groups.{AreSound, IsMade};
 ghost use Rattle.protocol.specs.FactsAfter.{one_if};
 ghost use Rattle.fission_ids.specs.ProcSet.{has};
-ghost use Rattle.parent_core.specs.Membership.{group_begun, group_with, group_with_more, shrunk, IsBegun};
+ghost use Rattle.parent_core.specs.Membership.{group_begun, group_with, group_with_more, groups_opened};
+ghost use Rattle.parent_core.specs.Membership.{HasRoom, IsBegun, shrunk};
 
 use context_group::{GroupFault, Groups};
 use fission_ids::{ContextId, GroupId, OutOfMemory, ProcId, ProcSet};
@@ -74,6 +76,37 @@ pub(crate) fn grow(groups: &mut Groups, g: GroupId)
     ensures sound { AreSound groups.new }
 {
     groups.grow(g);
+    let _ = groups.len();
+}
+
+/// The group of a new tab, which is the one that is named or a new one, with the tab's context.
+pub(crate) fn open_in(groups: &mut Groups, named: Option<GroupId>) -> Result<GroupId, OutOfMemory>
+    requires { MatchOption named (length groups.old < 64) (HasRoom groups.old) }
+    ensures number { IfOk result (λ g. g ≡ unwrap_or named (record { 0 = length groups.old + 1 })) }
+    ensures groups { OnOk result (groups.new ≡ groups_opened named groups.old) }
+    ensures sound { OnOk result (AreSound groups.new) }
+{
+    match named {
+        Some(g) => {
+            grow(groups, g);
+            Ok(g)
+        }
+        None => {
+            begin_with(groups, ProcSet::EMPTY)?;
+            Ok(GroupId(groups.len() as u32))
+        }
+    }
+}
+
+/// Process p is subscribed to a group that was made, if it wasn't.
+pub(crate) fn subscribe(groups: &mut Groups, p: ProcId, g: GroupId)
+    requires process { p.0 < 16 }
+    requires made { IsMade g groups.old }
+    ensures groups { groups.new ≡ (if has (group_at g groups.old).subscribers p.0 then groups.old
+        else at_group (group_after_subscribe p.0) g groups.old) }
+    ensures sound { AreSound groups.new }
+{
+    groups.subscribe(p, g);
     let _ = groups.len();
 }
 

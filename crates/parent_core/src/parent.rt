@@ -1,5 +1,5 @@
 ghost use Rattle.std.specs.Prelude.{◌≡◌, ℕ, ◌<◌, ◌≤◌, ◌+◌, ◌-◌, ◌^◌, length, None, Some, IfOk, OnOk, true};
-ghost use Rattle.std.specs.Prelude.{MatchOption, if◌then◌else◌, false, map, ⊤};
+ghost use Rattle.std.specs.Prelude.{MatchOption, if◌then◌else◌, false, is_none, map, ⊤};
 ghost use Rattle.std.specs.Option.{option_copied, option_map};
 ghost use Rattle.fission_ids.specs.declared.context.ContextId.{ContextId};
 ghost use Rattle.fission_ids.specs.ProcSet.{has};
@@ -8,10 +8,14 @@ ghost use Rattle.field_table.specs.FieldSet.{has as has_field};
 ghost use Rattle.context_tree.specs.Tree.{contexts, is_held, is_under, parent_in};
 ghost use Rattle.wire_msgs.specs.Config.{ConfigFits};
 ghost use Rattle.protocol.specs.Questions.{is_told, is_owner};
-ghost use Rattle.protocol.specs.Sayings.Saying.{Acked, BornDead, Counted, Ended, Made, Removed, Wrote};
+ghost use Rattle.protocol.specs.Sayings.Saying.{Acked, BornDead, Counted, Ended, Made, Opened};
+ghost use Rattle.protocol.specs.Sayings.Saying.{Removed, Wrote};
 ghost use Rattle.protocol.specs.Start.{facts_at_start, numbers};
 ghost use Rattle.protocol.specs.FactsAfter.{facts_after};
 ghost use Rattle.protocol.specs.Hear.{is_new_frame};
+ghost use Rattle.protocol.specs.ParentActs.{context_of_tab, group_of_tab, refusal};
+ghost use Rattle.wire_msgs.specs.declared.action.ParentAction.TheVariants as actions;
+ghost use Rattle.parent_core.specs.Opening.{after_subscribing, present_fields};
 ghost use Rattle.protocol.specs.Bundle.{after_sending};
 ghost use Rattle.parent_core.specs.Parent.{facts_of, origin_of, owner_in, owner_left};
 ghost use Rattle.parent_core.specs.Sound.{IsSound};
@@ -22,7 +26,8 @@ use crate::contents::{add_to, commit_to, remove_all};
 use crate::ending::{ProcessEnd, cause_of, owner_left};
 use crate::hanging::{attach, detach};
 use crate::membership::{
-    acknowledge, await_if_kept, drop_process, grow, one_subscribed, shrink_by, subscribed_but,
+    acknowledge, await_if_kept, drop_process, grow, one_subscribed, open_in, shrink_by, subscribe,
+    subscribed_but,
 };
 use crate::origin::{Origin, note_origin};
 use crate::posts::Post;
@@ -33,7 +38,7 @@ use crate::writes::values_of;
 use context_group::Groups;
 use context_store::{SlabStore, Store};
 use context_tree::Tree;
-use field_table::{Field, FieldSet, Value};
+use field_table::{Field, FieldSet, Fields, Value};
 use fission_ids::{ContextId, Duplicate, Epoch, GroupId, OutOfMemory, ProcId, ProcSet, Seq};
 use std::alloc::Global;
 use std::collections::HashMap;
@@ -42,8 +47,8 @@ use transaction::Transaction;
 use wire_msgs::{Config, DownBundle, EndCause};
 
 /// The parent, seen as what it keeps: its configuration, the tree of the live contexts with their fields,
-/// what was fixed when each context was made, the groups, the counts of each process, and the processes that
-/// were ended.
+/// what was fixed when each context was made, the groups, the counts of each process, the processes that were
+/// ended, and how many contexts it made itself.
 #[derive(Debug, Drop)]
 pub struct Parent {
     alloc: Global,
@@ -57,6 +62,8 @@ pub struct Parent {
     processes: Vec<Process>,
     // The newest first. Each process ends once, so that they are at most sixteen.
     ends: Vec<ProcessEnd>,
+    // How many contexts the parent made, those of the start with them.
+    tabs: usize,
 }
 
 impl Model for Parent {
@@ -75,6 +82,7 @@ impl Model for Parent {
       groups = p.groups;
       processes = p.processes.items;
       ends = p.ends.items;
+      tabs = p.tabs;
     } };
 
     ghost invariant = { λ p. HoldsAll (record {
@@ -85,6 +93,7 @@ impl Model for Parent {
       groups = p.groups;
       processes = p.processes.items;
       ends = p.ends.items;
+      tabs = p.tabs;
     }) };
 }
 
@@ -101,6 +110,7 @@ impl Parent {
         let contexts = contexts_of(alloc, tabs)?;
         let known = origins_of(alloc, tabs)?;
         let groups = groups_of(alloc, tabs)?;
+        let count = tabs.len();
         let processes = start_processes(alloc, config.types.len())?;
         Ok(Parent {
             alloc,
@@ -111,6 +121,7 @@ impl Parent {
             groups,
             processes,
             ends: Vec::new(alloc),
+            tabs: count,
         })
     }
 
@@ -209,7 +220,7 @@ impl Parent {
     }
 
     /// The processes that are told of a context, none where it isn't known.
-    pub(crate) fn subscribers(&self, x: ContextId) -> ProcSet
+    pub(crate) fn told_of(&self, x: ContextId) -> ProcSet
         ensures { (q : ℕ) → has result q ≡ is_told (facts_of self.now) q x }
     {
         match self.group_of(x) {
@@ -223,7 +234,7 @@ impl Parent {
         requires { p.0 < 16 }
         ensures { result ≡ is_told (facts_of self.now) p.0 x }
     {
-        self.subscribers(x).has(p)
+        self.told_of(x).has(p)
     }
 
     /// The epoch that was heard last of process p.
@@ -303,6 +314,66 @@ impl Parent {
         }
     }
 
+    /// The processes that are subscribed to a group, none where it wasn't made.
+    pub fn subscribers(&self, g: GroupId) -> ProcSet
+        ensures { result ≡ (facts_of self.now).groups.subscribers g }
+    {
+        self.groups.subscribers(g)
+    }
+
+    /// Whether a group is kept, which is false where it wasn't made.
+    pub(crate) fn is_kept(&self, g: GroupId) -> bool
+        ensures { result ≡ (facts_of self.now).groups.kept g }
+    {
+        self.groups.is_kept(g)
+    }
+
+    /// How many groups were made.
+    pub(crate) fn groups_made(&self) -> usize
+        ensures { result ≡ (facts_of self.now).groups.made }
+    {
+        self.groups.len()
+    }
+
+    /// How many contexts the parent made.
+    pub(crate) fn tabs_made(&self) -> usize
+        ensures { result ≡ (facts_of self.now).tabs_made }
+    {
+        self.tabs
+    }
+
+    /// The context of a new tab.
+    pub(crate) fn context_of_tab(&self) -> ContextId
+        ensures { result ≡ context_of_tab (facts_of self.now) }
+    {
+        let serial = self.tabs as u32 + 1;
+        ContextId { creator: 0, serial }
+    }
+
+    /// The group of a new tab: the one that is named, or a new one.
+    pub(crate) fn group_of_tab(&self, named: Option<GroupId>) -> GroupId
+        ensures { result ≡ group_of_tab (facts_of self.now) named }
+    {
+        match named {
+            Some(g) => g,
+            None => GroupId(self.groups.len() as u32 + 1),
+        }
+    }
+
+    /// The present values of a live context.
+    pub(crate) fn fields_of(&self, x: ContextId) -> Result<Fields, OutOfMemory>
+        requires { (facts_of self.now).contexts.live x ≡ true }
+        ensures { IfOk result (λ t. t ≡ present_fields (facts_of self.now) x) }
+    {
+        match self.contexts.get(x) {
+            Some(fields) => {
+                fields.covers_each_field();
+                fields.copy()
+            }
+            None => unreachable!(),
+        }
+    }
+
     /// The allocator.
     pub(crate) fn alloc(&self) -> Global {
         self.alloc
@@ -340,6 +411,7 @@ impl Parent {
             mut groups,
             processes,
             ends,
+            tabs,
         } = self;
         attach(&mut tree, Some(above), x)?;
         add_to(&mut contexts, x)?;
@@ -359,7 +431,83 @@ impl Parent {
             groups,
             processes,
             ends,
+            tabs,
         })
+    }
+
+    /// Process p owns a new top-level context, in the group that is named or in a new one.
+    pub(crate) fn open(self, p: ProcId, named: Option<GroupId>) -> Result<Parent, OutOfMemory>
+        requires process { p.0 < length self.config.types }
+        requires allowed { refusal (facts_of self) (actions.Tab p named) ≡ None }
+        ensures config { IfOk result (λ t. t.config ≡ self.config) }
+        ensures facts { IfOk result (λ t. facts_of t
+            ≡ facts_after (Opened (context_of_tab (facts_of self)) (group_of_tab (facts_of self) named)
+            (is_none named) p.0) (facts_of self)) }
+    {
+        let x = self.context_of_tab();
+        let Parent {
+            alloc,
+            config,
+            mut tree,
+            mut contexts,
+            mut known,
+            mut groups,
+            processes,
+            ends,
+            tabs,
+        } = self;
+        attach(&mut tree, None, x)?;
+        add_to(&mut contexts, x)?;
+        let group = open_in(&mut groups, named)?;
+        let origin = Origin {
+            group,
+            parent: None,
+            owner: p,
+        };
+        note_origin(&mut known, x, origin)?;
+        Ok(Parent {
+            alloc,
+            config,
+            tree,
+            contexts,
+            known,
+            groups,
+            processes,
+            ends,
+            tabs: tabs + 1,
+        })
+    }
+
+    /// Process p is subscribed to a group that is kept, if it wasn't.
+    pub(crate) fn subscribe(self, p: ProcId, g: GroupId) -> Parent
+        requires process { p.0 < length self.config.types }
+        requires kept { (facts_of self).groups.kept g ≡ true }
+        ensures config { result.config ≡ self.config }
+        ensures facts { facts_of result ≡ after_subscribing p.0 g (facts_of self) }
+    {
+        let Parent {
+            alloc,
+            config,
+            tree,
+            contexts,
+            known,
+            mut groups,
+            processes,
+            ends,
+            tabs,
+        } = self;
+        subscribe(&mut groups, p, g);
+        Parent {
+            alloc,
+            config,
+            tree,
+            contexts,
+            known,
+            groups,
+            processes,
+            ends,
+            tabs,
+        }
     }
 
     /// Process p made a frame too late, so that it was never live.
@@ -387,6 +535,7 @@ impl Parent {
             mut groups,
             processes,
             ends,
+            tabs,
         } = self;
         let who = one_subscribed(&groups, group, p);
         let origin = Origin {
@@ -405,6 +554,7 @@ impl Parent {
             groups,
             processes,
             ends,
+            tabs,
         })
     }
 
@@ -426,6 +576,7 @@ impl Parent {
             mut groups,
             processes,
             ends,
+            tabs,
         } = self;
         let who = subscribed_but(&groups, group, but);
         let gone = detach(&mut tree, x)?;
@@ -441,6 +592,7 @@ impl Parent {
             groups,
             processes,
             ends,
+            tabs,
         })
     }
 
@@ -459,6 +611,7 @@ impl Parent {
             mut groups,
             processes,
             ends,
+            tabs,
         } = self;
         acknowledge(&mut groups, p, x);
         Parent {
@@ -470,6 +623,7 @@ impl Parent {
             groups,
             processes,
             ends,
+            tabs,
         }
     }
 
@@ -488,6 +642,7 @@ impl Parent {
             groups,
             processes,
             ends,
+            tabs,
         } = self;
         commit_to(&mut contexts, x, t);
         Parent {
@@ -499,6 +654,7 @@ impl Parent {
             groups,
             processes,
             ends,
+            tabs,
         }
     }
 
@@ -517,6 +673,7 @@ impl Parent {
             mut groups,
             processes,
             mut ends,
+            tabs,
         } = self;
         ends.insert(0, ProcessEnd::new(p, cause))?;
         drop_process(&mut groups, p);
@@ -529,6 +686,7 @@ impl Parent {
             groups,
             processes,
             ends,
+            tabs,
         })
     }
 

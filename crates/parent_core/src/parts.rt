@@ -163,7 +163,7 @@ impl Parent {
         requires { p.0 < 16 }
         ensures { (q : ℕ) → q < 16 → has result q ≡ is_other_told (facts_of self.now) p.0 q x }
     {
-        self.subscribers(x).without(p)
+        self.told_of(x).without(p)
     }
 
     // Process p dropped a frame, which may be discarded already.

@@ -4,7 +4,7 @@ use Rattle.protocol.specs.Sayings.Saying.{BornDead}
 use Rattle.protocol.specs.FactsAfter.{facts_after}
 use Rattle.parent_core.specs.contracts.parent.Parent as parent
 use Rattle.parent_core.proofs.Born.{facts_born, holds_born}
-use Rattle.parent_core.proofs.Range.{frame_in_range}
+use Rattle.parent_core.proofs.Range.{frame_in_range, frame_of_process}
 use Rattle.parent_core.proofs.parent.Parent.bear_dead.Goals as goal
 
 pub invariant_of-result : goal.invariant_of-result
@@ -15,7 +15,7 @@ invariant_of-result c =
     (ap (λ (k : Kept). is_known c.args.x k.origins) view ∙ c.requires.new) (ap (λ (k : Kept). is_known c.args.above k.origins) view ∙ c.requires.above)
     (ap (λ (k : Kept). group_in c.args.above k.origins) view ∙ c.group_of_known-group.ensures)
     c.one_subscribed-who.result c.one_subscribed-who.ensures c.await_if_kept.new.groups c.in_ok-await_if_kept.ensures.groups
-    (frame_in_range c.args.self inside view c.self.invariant c.args.p.0 c.args.x c.requires.process c.requires.frame) c.in_ok-await_if_kept.ensures.sound
+    (frame_in_range c.args.self inside view c.self.invariant c.args.p.0 c.args.x c.requires.process c.requires.frame) (frame_of_process c.args.p.0 c.args.x c.requires.frame) c.in_ok-await_if_kept.ensures.sound
 
 pub returns-clause-facts : goal.returns-clause-facts
 returns-clause-facts c =

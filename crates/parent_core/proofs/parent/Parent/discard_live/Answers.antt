@@ -21,6 +21,6 @@ returns c =
     (RuledBy after (plain_ruling (length after.config.types) Done (bundle_parts new) (facts_of after)))
     (RuledBy k (act_ruling k (Discard c.args.x)))
     c.finish.result
-    (λ r h. discard_done k after c.subscribers.result c.new-posts.result.items new c.args.x r c.has_few_processes.ensures c.in_ok-remove.ensures.config c.subscribers.ensures c.new-posts.ensures.items h
+    (λ r h. discard_done k after c.told_of.result c.new-posts.result.items new c.args.x r c.has_few_processes.ensures c.in_ok-remove.ensures.config c.told_of.ensures c.new-posts.ensures.items h
     c.requires.live c.in_ok-remove.ensures.facts (λ q. ap (λ (ps : List Posted). sent_to ps q) c.as_slice.ensures.value ∙ c.in_ok-post_part.ensures q))
     c.finish.ensures

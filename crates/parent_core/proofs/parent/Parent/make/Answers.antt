@@ -5,7 +5,7 @@ use Rattle.protocol.specs.Sayings.Saying.{Made}
 use Rattle.protocol.specs.FactsAfter.{facts_after}
 use Rattle.parent_core.specs.contracts.parent.Parent as parent
 use Rattle.parent_core.proofs.Made.{facts_made, holds_made, group_kept}
-use Rattle.parent_core.proofs.Range.{frame_in_range, has_room}
+use Rattle.parent_core.proofs.Range.{frame_in_range, frame_of_process, has_room}
 use Rattle.parent_core.proofs.parent.Parent.make.Goals as goal
 
 pub grow-requires-clause-kept : goal.grow-requires-clause-kept
@@ -31,7 +31,7 @@ invariant_of-result c =
     (ap (λ (k : Kept). is_known c.args.x k.origins) view ∙ c.requires.new) (ap (λ (k : Kept). is_held c.args.above k.nodes) view ∙ c.requires.above)
     (ap (λ (k : Kept). group_in c.args.above k.origins) view ∙ c.group_of_known-group.ensures)
     c.attach.new.tree c.in_ok-attach.ensures.nodes c.add_to.new.contexts c.in_ok-add_to.ensures c.grow.new.groups c.grow.ensures.groups
-    c.in_ok-attach.ensures.tree (frame_in_range c.args.self inside view c.self.invariant c.args.p.0 c.args.x c.requires.process c.requires.frame) c.grow.ensures.sound
+    c.in_ok-attach.ensures.tree (frame_in_range c.args.self inside view c.self.invariant c.args.p.0 c.args.x c.requires.process c.requires.frame) (frame_of_process c.args.p.0 c.args.x c.requires.frame) c.grow.ensures.sound
 
 pub returns-clause-facts : goal.returns-clause-facts
 returns-clause-facts c =

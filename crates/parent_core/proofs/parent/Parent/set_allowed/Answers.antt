@@ -24,6 +24,6 @@ returns c =
     (RuledBy after (plain_ruling (length after.config.types) Done (bundle_parts new) (facts_of after)))
     (RuledBy k (act_ruling k (Set c.args.x c.args.t)))
     c.finish.result
-    (λ r h. set_done k after c.subscribers.result c.new-posts.result.items new c.args.x r c.has_few_processes.ensures c.write.ensures.config c.subscribers.ensures c.new-posts.ensures.items h c.args.t
+    (λ r h. set_done k after c.told_of.result c.new-posts.result.items new c.args.x r c.has_few_processes.ensures c.write.ensures.config c.told_of.ensures c.new-posts.ensures.items h c.args.t
     c.requires.allowed c.write.ensures.facts (λ q. ap (λ (ps : List Posted). sent_to ps q) c.as_slice.ensures.value ∙ c.in_ok-post_commit.ensures q))
     c.finish.ensures

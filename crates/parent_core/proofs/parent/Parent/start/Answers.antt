@@ -1,4 +1,4 @@
-use Rattle.std.proofs.Common.{List, ap, subst, sym, ◌∙◌, length, map}
+use Rattle.std.proofs.Common.{ℕ, List, ap, ap₂, subst, sym, ◌∙◌, length, map}
 use Rattle.std.specs.List.{AllByRecursion}
 use Rattle.std.specs.Option.{option_map}
 use Rattle.wire_msgs.specs.Config.{ConfigFits, TabFits}
@@ -19,7 +19,7 @@ groups_of-requires-clause-fit c =
 
 pub invariant_of-result : goal.invariant_of-result
 invariant_of-result c =
-    let with_ends : List End → Kept = λ es. record {
+    let with_ends : List End → ℕ → Kept = λ es n. record {
       config = c.in_ok-config.config;
       nodes = c.in_ok-tree.tree;
       contexts = c.in_ok-contexts.contexts;
@@ -27,8 +27,10 @@ invariant_of-result c =
       groups = c.in_ok-groups.groups;
       processes = c.in_ok-processes.processes.items;
       ends = es;
+      tabs = n;
     } in
-    subst (λ (es : List End). HoldsAll (with_ends es)) (sym c.new.ensures.items)
+    subst (λ (n : ℕ). HoldsAll (with_ends c.new.result.items n)) (sym (ap (λ (ts : List StartTab). length ts) c.as_slice-tabs.ensures))
+    (subst (λ (es : List End). HoldsAll (with_ends es (length c.in_ok-config.config.tabs))) (sym c.new.ensures.items)
     (holds_started c.in_ok-config.config (subst ConfigFits (sym c.in_ok-config.ensures) c.requires) c.in_ok-tree.tree
     (λ x. c.in_ok-tree.ensures.found x ∙ ap (λ (ts : List StartTab). some_if (is_live ts x) (top_node x)) c.as_slice-tabs.ensures)
     (c.in_ok-tree.ensures.order ∙ ap contexts_of c.as_slice-tabs.ensures)
@@ -36,11 +38,11 @@ invariant_of-result c =
     c.in_ok-known.known.entries (λ x. c.in_ok-known.ensures x ∙ ap (λ (ts : List StartTab). option_map (origin_of_tab x) (tab_of ts x)) c.as_slice-tabs.ensures)
     c.in_ok-groups.groups (c.in_ok-groups.ensures.groups ∙ ap (map group_of_tab) c.as_slice-tabs.ensures)
     c.in_ok-processes.processes.items
-    c.in_ok-tree.ensures.tree c.in_ok-groups.ensures.sound (c.in_ok-processes.ensures.len ∙ c.len.ensures))
+    c.in_ok-tree.ensures.tree c.in_ok-groups.ensures.sound (c.in_ok-processes.ensures.len ∙ c.len.ensures)))
 
 pub returns-clause-facts : goal.returns-clause-facts
 returns-clause-facts c =
-    let with_ends : List End → Kept = λ es. record {
+    let with_ends : List End → ℕ → Kept = λ es n. record {
       config = c.in_ok-config.config;
       nodes = c.in_ok-tree.tree;
       contexts = c.in_ok-contexts.contexts;
@@ -48,8 +50,9 @@ returns-clause-facts c =
       groups = c.in_ok-groups.groups;
       processes = c.in_ok-processes.processes.items;
       ends = es;
+      tabs = n;
     } in
-    ap (λ (es : List End). facts_of (with_ends es)) c.new.ensures.items
+    ap₂ (λ (es : List End) (n : ℕ). facts_of (with_ends es n)) c.new.ensures.items (ap (λ (ts : List StartTab). length ts) c.as_slice-tabs.ensures)
     ∙ facts_started c.in_ok-config.config (subst ConfigFits (sym c.in_ok-config.ensures) c.requires) c.in_ok-tree.tree
     (λ x. c.in_ok-tree.ensures.found x ∙ ap (λ (ts : List StartTab). some_if (is_live ts x) (top_node x)) c.as_slice-tabs.ensures)
     (c.in_ok-tree.ensures.order ∙ ap contexts_of c.as_slice-tabs.ensures)

@@ -1,6 +1,6 @@
 -- What a process keeps, and what it answers by it.
 use Rattle.std.specs.Prelude.{◌≡◌, refl, ℕ, ◌+◌, ◌<◌, ◌≤◌, Bool, true, false, List, length, Option, is_some}
-use Rattle.std.specs.Prelude.{IfSome, ⊤}
+use Rattle.std.specs.Prelude.{IfSome}
 use Rattle.std.specs.Coded.{Coded, code_by, coded_ℕ, coded_bool, coded×, coded_list}
 use Rattle.std.specs.FinMap.{get}
 use Rattle.std.specs.Map.{lookup}
@@ -14,8 +14,6 @@ use Rattle.epochs.specs.FieldEpochs.{epoch_of}
 use Rattle.context_store.specs.Content.{Content, content_code, is_there}
 use Rattle.context_tree.specs.Node.{Node}
 use Rattle.context_tree.specs.Tree.{IsTree, contexts, is_held, parent_in, is_under}
-use Rattle.wire_msgs.specs.declared.action.Action.{Action}
-use Rattle.wire_msgs.specs.declared.action.Action.TheVariants.{Set, Frame, Drop}
 use Rattle.protocol.specs.Seen.{Seen}
 use Rattle.content_core.specs.declared.hold.Hold.{Hold}
 use Rattle.content_core.specs.contracts.hold.Hold as hold
@@ -111,10 +109,3 @@ pub record HoldsItsTree (p : ℕ) (nodes : List Node) (m : Content) (holds : Hol
 -- a process keeps what belongs to the contexts that it holds, and to no other
 abbrev pub IsWhole : Kept → Type 0
 IsWhole k = HoldsItsTree k.process k.nodes k.contexts k.holds k.frames_made
-
--- so far a process writes fields, and makes and drops frames
-abbrev pub IsPlayed : Action → Type 0
-IsPlayed (Set x t) = ⊤
-IsPlayed (Frame x) = ⊤
-IsPlayed (Drop x) = ⊤
-IsPlayed action = ⊥

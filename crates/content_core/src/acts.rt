@@ -7,7 +7,8 @@ ghost use Rattle.protocol.specs.ParentActs.{refused_if, denial_refused};
 ghost use Rattle.protocol.specs.Questions.{option_any};
 ghost use Rattle.protocol.specs.SeenAfter.{seen_after};
 ghost use Rattle.protocol.specs.Take.{bundle_sent};
-ghost use Rattle.content_core.specs.Content.{seen_of, IsPlayed, IsWhole};
+ghost use Rattle.protocol.specs.Played.{IsPlayedByProcess};
+ghost use Rattle.content_core.specs.Content.{seen_of, IsWhole};
 ghost use Rattle.content_core.specs.Held.{kept_of};
 ghost use Rattle.content_core.specs.Moved.{MovedBy, Counts};
 ghost use Rattle.content_core.specs.Steps.{frame_refusal, drop_refusal, is_field_denied};
@@ -27,7 +28,7 @@ impl Held {
     /// The process acts of its own accord. Where it doesn't run, that is refused as `Stopped`.
     pub(crate) fn act(self, action: Action) -> Result<Moved, OutOfMemory>
         requires whole { IsWhole (kept_of self) }
-        requires action { IsPlayed action }
+        requires action { IsPlayedByProcess action }
         requires counts { Counts (kept_of self) }
         ensures { IfOk result (λ m. MovedBy (kept_of self)
             (action_step (λ s. s) (seen_after self.process.0) self.process.0 action (seen_of (kept_of self)))
@@ -42,7 +43,7 @@ impl Held {
     // Why an action is refused, if it is.
     #[tactic(auto, unfolding(protocol::specs::OwnActs::refusal))]
     fn refusal(&self, action: &Action) -> Option<Refusal>
-        requires { IsPlayed action.now }
+        requires { IsPlayedByProcess action.now }
         ensures { result ≡ refusal self.now.process.0 (seen_of (kept_of self.now)) action.now }
     {
         if !self.running {
@@ -127,7 +128,7 @@ impl Held {
     // An action that isn't refused.
     fn perform(self, action: Action) -> Result<Moved, OutOfMemory>
         requires whole { IsWhole (kept_of self) }
-        requires action { IsPlayed action }
+        requires action { IsPlayedByProcess action }
         requires counts { Counts (kept_of self) }
         requires allowed { refusal self.process.0 (seen_of (kept_of self)) action ≡ None }
         ensures { IfOk result (λ m. MovedBy (kept_of self)

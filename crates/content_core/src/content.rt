@@ -7,7 +7,8 @@ ghost use Rattle.protocol.specs.Start.{seen_at_start};
 ghost use Rattle.protocol.specs.SeenAfter.{seen_after};
 ghost use Rattle.protocol.specs.OwnActs.{action_step};
 ghost use Rattle.protocol.specs.Take.{bundle_step};
-ghost use Rattle.content_core.specs.Content.{seen_of, IsPlayed};
+ghost use Rattle.protocol.specs.Played.{IsPlayedByProcess};
+ghost use Rattle.content_core.specs.Content.{seen_of};
 ghost use Rattle.content_core.specs.Moved.{MovedBy, Counts, IsTaken};
 
 use crate::held::Held;
@@ -52,7 +53,7 @@ impl Content {
 
     /// The process acts of its own accord. Where it doesn't run, that is refused as `Stopped`.
     pub fn act(self, action: Action) -> Result<Moved, OutOfMemory>
-        requires action { IsPlayed action }
+        requires action { IsPlayedByProcess action }
         requires counts { Counts self }
         ensures { IfOk result (λ m.
             MovedBy self

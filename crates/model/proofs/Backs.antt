@@ -24,7 +24,7 @@ use Rattle.traces.specs.Words as words
 use Rattle.model.specs.Lines.{Making, line}
 use Rattle.model.specs.Moments.{Moment, ProcessEvent, facts_now, told, heard, is_done, written}
 use Rattle.model.specs.Moments.Written.{Own}
-use Rattle.model.specs.View.{look, value_for, value_written, value_in_parts, content_of, given}
+use Rattle.model.specs.View.{look, value_for, value_written, value_in_parts, content_of, given, singles}
 use Rattle.model.proofs.Cases.{by_if, some_is, none_some}
 use Rattle.model.proofs.Entry.{Entry, Hearing}
 use Rattle.model.proofs.Entry.Entry.{Idle, Sets, Frames, Drops, TakesOne, Tells, Killing, HearsOne}
@@ -100,11 +100,17 @@ base_reverted k (Some v) (Begins b) t = refl
 base_reverted k (Some v) Removes t = refl
 base_reverted k (Some v) Leaves t = refl
 
+-- commits stand alone already
+singles_same : (parts : List DownPart) → AllByRecursion IsCommitPart parts → singles parts ≡ parts
+singles_same [] all = refl
+singles_same (downs.Commit y t ∷ parts) all = ap (λ ds. downs.Commit y t ∷ ds) (singles_same parts all.1)
+singles_same (_ ∷ parts) all = absurd all.0
+
 pub base_same : (x : ContextId) (f : Field) (mk mk' : List Making) (h : List ProcessEvent) → words.base (trace_for (look x f mk) h) ≡ words.base (trace_for (look x f mk') h)
 base_same x f mk mk' [] = refl
 base_same x f mk mk' (Takes d ∷ h) = refl
 base_same x f mk mk' (Reverts k w d ∷ h) =
-    base_reverted k (value_written x f w) (content_of x (line x mk) f d.parts) (trace_for (look x f mk) h) ∙ base_same x f mk mk' h ∙ sym (base_reverted k (value_written x f w) (content_of x (line x mk') f d.parts) (trace_for (look x f mk') h))
+    base_reverted k (value_written x f w) (content_of x (line x mk) f (singles d.parts)) (trace_for (look x f mk) h) ∙ base_same x f mk mk' h ∙ sym (base_reverted k (value_written x f w) (content_of x (line x mk') f (singles d.parts)) (trace_for (look x f mk') h))
 base_same x f mk mk' (_ ∷ h) = base_same x f mk mk' h
 
 accepted_reverted : (k : ℕ) (w : Option Value) (c : Content Value) (t t' : Trace Value) → words.accepted_at t ≡ words.accepted_at t' → words.accepted_at (reverted_for k w c t) ≡ words.accepted_at (reverted_for k w c t')
@@ -121,11 +127,11 @@ accepted_same x f mk mk' (Accepts k w ∷ h) all = ap (words.latest_number (valu
 accepted_same x f mk mk' (Reverts k w d ∷ h) all = by_back all.0 (accepted_same x f mk mk' h all.1)
   where
     by_back : ((y : ContextId) (g : Field) → value_written y g w ≡ None) ⊎ AllByRecursion IsCommitPart d.parts → words.accepted_at (trace_for (look x f mk) h) ≡ words.accepted_at (trace_for (look x f mk') h)
-        → words.accepted_at (reverted_for k (value_written x f w) (content_of x (line x mk) f d.parts) (trace_for (look x f mk) h)) ≡ words.accepted_at (reverted_for k (value_written x f w) (content_of x (line x mk') f d.parts) (trace_for (look x f mk') h))
+        → words.accepted_at (reverted_for k (value_written x f w) (content_of x (line x mk) f (singles d.parts)) (trace_for (look x f mk) h)) ≡ words.accepted_at (reverted_for k (value_written x f w) (content_of x (line x mk') f (singles d.parts)) (trace_for (look x f mk') h))
     by_back (inl none) rest =
-        ap (λ v. words.accepted_at (reverted_for k v (content_of x (line x mk) f d.parts) (trace_for (look x f mk) h))) (none x f) ∙ rest
-        ∙ sym (ap (λ v. words.accepted_at (reverted_for k v (content_of x (line x mk') f d.parts) (trace_for (look x f mk') h))) (none x f))
+        ap (λ v. words.accepted_at (reverted_for k v (content_of x (line x mk) f (singles d.parts)) (trace_for (look x f mk) h))) (none x f) ∙ rest
+        ∙ sym (ap (λ v. words.accepted_at (reverted_for k v (content_of x (line x mk') f (singles d.parts)) (trace_for (look x f mk') h))) (none x f))
     by_back (inr commits) rest =
-        accepted_reverted k (value_written x f w) (content_of x (line x mk) f d.parts) (trace_for (look x f mk) h) (trace_for (look x f mk') h) rest
-        ∙ ap (λ c. words.accepted_at (reverted_for k (value_written x f w) c (trace_for (look x f mk') h))) (content_same x f (line x mk) (line x mk') d.parts commits)
+        accepted_reverted k (value_written x f w) (content_of x (line x mk) f (singles d.parts)) (trace_for (look x f mk) h) (trace_for (look x f mk') h) rest
+        ∙ ap (λ c. words.accepted_at (reverted_for k (value_written x f w) c (trace_for (look x f mk') h))) (ap (content_of x (line x mk) f) (singles_same d.parts commits) ∙ content_same x f (line x mk) (line x mk') d.parts commits ∙ sym (ap (content_of x (line x mk') f) (singles_same d.parts commits)))
 accepted_same x f mk mk' (_ ∷ h) all = accepted_same x f mk mk' h all.1

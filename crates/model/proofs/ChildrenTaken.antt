@@ -19,7 +19,6 @@ use Rattle.protocol.specs.Questions.{option_any}
 use Rattle.protocol.specs.Seen.{Seen}
 use Rattle.protocol.specs.Seen.Doing.{Came, Went, Given, Stopped}
 use Rattle.protocol.specs.SeenAfter.{seen_after, with_context, place_for}
-use Rattle.protocol.specs.Start.{is_held_at_start}
 use Rattle.protocol.specs.Take.{take_rules, taken_notes, may_come, option_all}
 use Rattle.protocol.specs.Take as take
 use Rattle.traces.specs.Words.{Stage}
@@ -28,16 +27,17 @@ use Rattle.trees.specs.Look.{Effect, moved}
 use Rattle.trees.specs.Look.Effect.{Stays, Comes, Goes}
 use Rattle.trees.specs.Words.{is_held}
 use Rattle.model.specs.Lines.{Making, line, above_in, is_among}
-use Rattle.model.specs.Trees.{comes_if, goes_if, both, parts_tell, parts_bring, is_of_its_tabs}
+use Rattle.model.specs.Trees.{comes_if, goes_if, both, parts_tell, parts_bring}
 use Rattle.model.proofs.Arranging.{come_all, ComeFirst}
 use Rattle.model.proofs.Cases.{by_if, same_context_is, same_itself}
 use Rattle.model.proofs.Children.{all_join, all_from}
-use Rattle.model.proofs.DownFits.{ComingFits, IsApart, ComeApart, PartFits}
+use Rattle.model.proofs.DownFits.{ComingFits, IsApart, ComeApart}
 use Rattle.model.proofs.Holding.{SeenTies, seen_still}
 use Rattle.model.proofs.Lining.{Lined, longer}
-use Rattle.model.proofs.Living.{both_moved, both_swapped}
-use Rattle.model.proofs.Ordered.{held_order_still, one_below, went_below, comes_where}
+use Rattle.model.proofs.Living.{both_moved, both_swapped, held_only}
+use Rattle.model.proofs.Ordered.{held_order_still, one_below, went_below, comes_where, top_below}
 use Rattle.model.proofs.Preorder.{Preorder, filter_all, filter_twice, filter_within, below_of, is_outside}
+use Rattle.model.proofs.SingleFits.{SingleFits}
 use Rattle.model.proofs.TreeLawful.{downs_below}
 use Rattle.model.proofs.TreeTake.{unbrought}
 
@@ -99,11 +99,6 @@ comes_old Gone h = absurd cc
 together : (a b : Effect) (s : Stage) → moved b (moved a s) ≡ moved (both a b) s
 together a b s = sym (both_moved b a s) ∙ ap (λ e. moved e s) (both_swapped b a)
 
-held_only : (s : Stage) → is_held s ≡ true → s ≡ Held
-held_only Coming e = absurd cc
-held_only Held e = refl
-held_only Gone e = absurd cc
-
 -- ---- in the middle of a bundle
 
 -- it isn't discarded by one of these parts
@@ -121,8 +116,9 @@ module _ (c : Config) (p : ℕ) (mk : List Making) (l : Lined mk) where
   pub record Midway (s : Seen) (L : ContextId → Stage) (post : List DownPart) : Type 0 where
     pub ties : SeenTies c.tabs p mk s
     pub order : Preorder mk s.order s.holds
-    pub stages : (x : ContextId) → is_of_its_tabs c p mk x ≡ true → is_goes (parts_tell x (line x mk) post) ≡ false → is_held (L x) ≡ s.holds x
-    pub coming : (x z : ContextId) → is_of_its_tabs c p mk x ≡ true → (x.creator == p + 1) ≡ false → above_in mk x ≡ Some z → parts_tell x (line x mk) post ≡ Comes → MayCome L post x z
+    pub stages : (x : ContextId) → is_goes (parts_tell x (line x mk) post) ≡ false → is_held (L x) ≡ s.holds x
+    pub coming : (x z : ContextId) → (x.creator == p + 1) ≡ false → above_in mk x ≡ Some z → parts_tell x (line x mk) post ≡ Comes → MayCome L post x z
+    pub coming_top : (x : ContextId) → (x.creator == p + 1) ≡ false → above_in mk x ≡ None → parts_tell x (line x mk) post ≡ Comes → L x ≡ Coming
 
   -- and so are the children of y among those that came
   pub record MidwayBelow (y : ContextId) (s : Seen) (L : ContextId → Stage) (xs : List ContextId) (post : List DownPart) : Type 0 where
@@ -130,17 +126,11 @@ module _ (c : Config) (p : ℕ) (mk : List Making) (l : Lined mk) where
     pub old : AllByRecursion (λ z. L z ≡ Coming → ⊥) xs
     pub below : AllByRecursion (λ z. above_in mk z ≡ Some y) xs
 
-  mine_above : (x a : ContextId) → above_in mk x ≡ Some a → is_of_its_tabs c p mk x ≡ is_of_its_tabs c p mk a
-  mine_above x a up = ap (is_held_at_start c.tabs p) (l.root_step x a up)
-
   -- ---- a context comes
 
   module _ (s : Seen) (L : ContextId → Stage) (k : Known) (post : List DownPart) (fits : ComingFits c p mk k) (apart : AllByRecursion (IsApart k) (come_all post)) (t : Midway s L (downs.Create k ∷ post)) where
     abbrev x : ContextId
     x = k.context
-
-    abbrev a : ContextId
-    a = fits.known.below
 
     -- the stages behind it
     abbrev M : ContextId → Stage
@@ -150,64 +140,83 @@ module _ (c : Config) (p : ℕ) (mk : List Making) (l : Lined mk) where
     others_of [] all = tt
     others_of (j ∷ ks) all = (all.0.other, others_of ks all.1)
 
-    above_of : (ks : List Known) → AllByRecursion (IsApart k) ks → AllByRecursion (λ j. same_context j.context fits.known.below ≡ false) ks
-    above_of [] all = tt
-    above_of (j ∷ ks) all = (sym (ap (option_any (same_context j.context)) fits.known.frame) ∙ all.0.not_above, above_of ks all.1)
-
-    step_line : line k.context mk ≡ k.context ∷ line fits.known.below mk
-    step_line = l.line_step x a fits.known.made
-
-    apart_above : same_context fits.known.below k.context ≡ false
-    apart_above = longer x a mk step_line
-
     tell_x : is_goes (parts_tell k.context (line k.context mk) post) ≡ false → parts_tell k.context (line k.context mk) (downs.Create k ∷ post) ≡ Comes
     tell_x left = ap (λ v. both (comes_if v) (parts_tell x (line x mk) post)) (same_itself x) ∙ comes_unless (parts_tell x (line x mk) post) left
 
-    tell_a : parts_tell fits.known.below (line fits.known.below mk) (downs.Create k ∷ post) ≡ parts_tell fits.known.below (line fits.known.below mk) post
-    tell_a = ap (λ v. both (comes_if v) (parts_tell a (line a mk) post)) apart_above
-
-    comings : is_goes (parts_tell k.context (line k.context mk) post) ≡ false → MayCome L (downs.Create k ∷ post) k.context fits.known.below
-    comings left = t.coming x a fits.mine fits.others fits.known.made (tell_x left)
-
     unheld_x : is_goes (parts_tell k.context (line k.context mk) post) ≡ false → is_held (L k.context) ≡ false → s.holds k.context ≡ false
-    unheld_x left off = sym (t.stages x fits.mine (goes_comes (same_context x x) (parts_tell x (line x mk) post) ∙ left)) ∙ off
+    unheld_x left off = sym (t.stages x (goes_comes (same_context x x) (parts_tell x (line x mk) post) ∙ left)) ∙ off
 
-    stays_above : is_goes (parts_tell k.context (line k.context mk) post) ≡ false → is_goes (parts_tell fits.known.below (line fits.known.below mk) post) ≡ false
-    stays_above left = by_goes (is_goes (parts_tell a (line a mk) post)) refl
+    -- it may come if what is above it is held
+    may_come_then : (o : Option ContextId) → k.parent ≡ o → s.holds k.context ≡ false → option_all s.holds o ≡ true → may_come p s k ≡ true
+    may_come_then o is off on = ap (λ q. not (s.holds x) && not (x.creator == p + 1) && option_all s.holds q) is ∙ all_parts (s.holds x) (x.creator == p + 1) (option_all s.holds o) off fits.others on
       where
-        by_goes : (v : Bool) → is_goes (parts_tell fits.known.below (line fits.known.below mk) post) ≡ v → v ≡ false
-        by_goes false e = refl
-        by_goes true e = absurd (not_goes (parts_tell x (line x mk) post) left (downs_below c p mk l x a post fits.known.made (goes_is (parts_tell a (line a mk) post) e)))
+        all_parts : (u v w : Bool) → u ≡ false → v ≡ false → w ≡ true → (not u && not v && w) ≡ true
+        all_parts false false true e f g = refl
+        all_parts true v w e f g = absurd cc
+        all_parts false true w e f g = absurd cc
+        all_parts false false false e f g = absurd cc
 
-    stage_above : is_goes (parts_tell k.context (line k.context mk) post) ≡ false → is_held (L fits.known.below) ≡ s.holds fits.known.below
-    stage_above left = t.stages a (sym (mine_above x a fits.known.made) ∙ fits.mine) (ap is_goes tell_a ∙ stays_above left)
+    abbrev ComeOrGone : Type 0
+    ComeOrGone = ((L k.context ≡ Coming) × (may_come p s k ≡ true)) ⊎ ((L k.context ≡ Gone) × (may_come p s k ≡ false))
+
+    -- with nothing above it, it comes
+    top_comes : is_goes (parts_tell k.context (line k.context mk) post) ≡ false → above_in mk k.context ≡ None → ComeOrGone
+    top_comes left top =
+        let new : L x ≡ Coming = t.coming_top x fits.others top (tell_x left) in
+        inl (new, may_come_then None (fits.known.above ∙ top) (unheld_x left (ap is_held new)) refl)
+
+    -- below another it comes, or it is gone
+    module _ (a : ContextId) (up : above_in mk k.context ≡ Some a) (left : is_goes (parts_tell k.context (line k.context mk) post) ≡ false) where
+      parent_is : k.parent ≡ Some a
+      parent_is = fits.known.above ∙ up
+
+      above_of : (ks : List Known) → AllByRecursion (IsApart k) ks → AllByRecursion (λ j. same_context j.context a ≡ false) ks
+      above_of [] all = tt
+      above_of (j ∷ ks) all = (sym (ap (option_any (same_context j.context)) parent_is) ∙ all.0.not_above, above_of ks all.1)
+
+      apart_above : same_context a k.context ≡ false
+      apart_above = longer x a mk (l.line_step x a up)
+
+      tell_a : parts_tell a (line a mk) (downs.Create k ∷ post) ≡ parts_tell a (line a mk) post
+      tell_a = ap (λ v. both (comes_if v) (parts_tell a (line a mk) post)) apart_above
+
+      comings : MayCome L (downs.Create k ∷ post) k.context a
+      comings = t.coming x a fits.others up (tell_x left)
+
+      stays_above : is_goes (parts_tell a (line a mk) post) ≡ false
+      stays_above = by_goes (is_goes (parts_tell a (line a mk) post)) refl
+        where
+          by_goes : (v : Bool) → is_goes (parts_tell a (line a mk) post) ≡ v → v ≡ false
+          by_goes false e = refl
+          by_goes true e = absurd (not_goes (parts_tell x (line x mk) post) left (downs_below c p mk l x a post up (goes_is (parts_tell a (line a mk) post) e)))
+
+      stage_above : is_held (L a) ≡ s.holds a
+      stage_above = t.stages a (ap is_goes tell_a ∙ stays_above)
+
+      lower_comes : ComeOrGone
+      lower_comes = by_stage (L x) refl
+        where
+          by_may : (v : Bool) → may_come p s k ≡ v → L k.context ≡ Gone → may_come p s k ≡ false
+          by_may false e gone = e
+          by_may true e gone =
+              let above : s.holds a ≡ true = (comes_where c.tabs mk l p s k a parent_is e).1 in
+              absurd (comings.gone gone (ap₂ moved tell_a (held_only (L a) (stage_above ∙ above)) ∙ comes_held (parts_tell a (line a mk) post) stays_above))
+
+          by_stage : (v : Stage) → L k.context ≡ v → ComeOrGone
+          by_stage Held e = absurd (comings.unheld e)
+          by_stage Gone e = inr (e, by_may (may_come p s k) refl e)
+          by_stage Coming e =
+              let held : moved (parts_tell a (line a mk) post) (L a) ≡ Held = sym (ap (λ d. moved d (L a)) tell_a) ∙ comings.new e in
+              let before : L a ≡ Held = (was_held (parts_tell a (line a mk) post) (L a) (unbrought a (line a mk) post (above_of (come_all post) apart)) held).1 in
+              inl (e, may_come_then (Some a) parent_is (unheld_x left (ap is_held e)) (sym stage_above ∙ ap is_held before))
 
     -- what is told of and stays comes, or it is gone
     come_or_gone : is_goes (parts_tell k.context (line k.context mk) post) ≡ false → ((L k.context ≡ Coming) × (may_come p s k ≡ true)) ⊎ ((L k.context ≡ Gone) × (may_come p s k ≡ false))
-    come_or_gone left = by_stage (L x) refl
+    come_or_gone left = by_above (above_in mk k.context) refl
       where
-        all_parts : (o : Option ContextId) (u v w : Bool) → u ≡ false → v ≡ false → w ≡ true → (not u && not v && w) ≡ true
-        all_parts o false false true e f g = refl
-        all_parts o true v w e f g = absurd cc
-        all_parts o false true w e f g = absurd cc
-        all_parts o false false false e f g = absurd cc
-
-        may : s.holds k.context ≡ false → s.holds fits.known.below ≡ true → may_come p s k ≡ true
-        may off on = ap (λ o. not (s.holds x) && not (x.creator == p + 1) && option_all s.holds o) fits.known.frame ∙ all_parts None (s.holds x) (x.creator == p + 1) (s.holds a) off fits.others on
-
-        by_may : (v : Bool) → may_come p s k ≡ v → L k.context ≡ Gone → may_come p s k ≡ false
-        by_may false e gone = e
-        by_may true e gone =
-            let above : s.holds a ≡ true = (comes_where c.tabs mk l p s k a fits.known.frame e).1 in
-            absurd ((comings left).gone gone (ap₂ moved tell_a (held_only (L a) (stage_above left ∙ above)) ∙ comes_held (parts_tell a (line a mk) post) (stays_above left)))
-
-        by_stage : (v : Stage) → L k.context ≡ v → ((L k.context ≡ Coming) × (may_come p s k ≡ true)) ⊎ ((L k.context ≡ Gone) × (may_come p s k ≡ false))
-        by_stage Held e = absurd ((comings left).unheld e)
-        by_stage Gone e = inr (e, by_may (may_come p s k) refl e)
-        by_stage Coming e =
-            let held : moved (parts_tell a (line a mk) post) (L a) ≡ Held = sym (ap (λ d. moved d (L a)) tell_a) ∙ (comings left).new e in
-            let before : L a ≡ Held = (was_held (parts_tell a (line a mk) post) (L a) (unbrought a (line a mk) post (above_of (come_all post) apart)) held).1 in
-            inl (e, may (unheld_x left (ap is_held e)) (sym (stage_above left) ∙ ap is_held before))
+        by_above : (o : Option ContextId) → above_in mk k.context ≡ o → ((L k.context ≡ Coming) × (may_come p s k ≡ true)) ⊎ ((L k.context ≡ Gone) × (may_come p s k ≡ false))
+        by_above None top = top_comes left top
+        by_above (Some a) up = lower_comes a up left
 
     -- what the process holds then
     came_holds : (z : ContextId) → same_context z k.context ≡ false → (seen_after p (Came k) s).holds z ≡ s.holds z
@@ -224,39 +233,41 @@ module _ (c : Config) (p : ℕ) (mk : List Making) (l : Lined mk) where
     came_midway = record {
       ties = seen_still c.tabs p mk s (Came k) l fits.known t.ties;
       order = held_order_still c.tabs mk l p s (Came k) fits.known t.ties t.order;
-      stages = λ z mine left. by_same z mine left (same_context z x) refl;
-      coming = λ z u mine other up comes. come_still z u mine other up comes;
+      stages = λ z left. by_same z left (same_context z x) refl;
+      coming = λ z u other up comes. come_still z u other up comes;
+      coming_top = λ z other top comes. stage_still z comes ∙ t.coming_top z other top (comes_both z comes (same_context z x) ∙ ap (both Comes) comes);
     }
       where
         by_stage : is_goes (parts_tell k.context (line k.context mk) post) ≡ false → ((L k.context ≡ Coming) × (may_come p s k ≡ true)) ⊎ ((L k.context ≡ Gone) × (may_come p s k ≡ false)) → is_held (moved Comes (L k.context)) ≡ (seen_after p (Came k) s).holds k.context
         by_stage left (inl (coming, may)) = ap (λ v. is_held (moved Comes v)) coming ∙ sym (came_itself true may)
         by_stage left (inr (gone, not_so)) = ap (λ v. is_held (moved Comes v)) gone ∙ sym (came_itself false not_so ∙ unheld_x left (ap is_held gone))
 
-        by_same : (z : ContextId) → is_of_its_tabs c p mk z ≡ true → is_goes (parts_tell z (line z mk) post) ≡ false → (v : Bool) → same_context z k.context ≡ v → is_held (moved (comes_if v) (L z)) ≡ (seen_after p (Came k) s).holds z
-        by_same z mine left false other = t.stages z mine (goes_comes (same_context z x) (parts_tell z (line z mk) post) ∙ left) ∙ sym (came_holds z other)
-        by_same z mine left true is =
+        by_same : (z : ContextId) → is_goes (parts_tell z (line z mk) post) ≡ false → (v : Bool) → same_context z k.context ≡ v → is_held (moved (comes_if v) (L z)) ≡ (seen_after p (Came k) s).holds z
+        by_same z left false other = t.stages z (goes_comes (same_context z x) (parts_tell z (line z mk) post) ∙ left) ∙ sym (came_holds z other)
+        by_same z left true is =
             let same : z ≡ x = same_context_is z x is in
             let left_x : is_goes (parts_tell x (line x mk) post) ≡ false = subst (λ w. is_goes (parts_tell w (line w mk) post) ≡ false) same left in
             subst (λ w. is_held (moved Comes (L w)) ≡ (seen_after p (Came k) s).holds w) (sym same) (by_stage left_x (come_or_gone left_x))
 
-        come_still : (z u : ContextId) → is_of_its_tabs c p mk z ≡ true → (z.creator == p + 1) ≡ false → above_in mk z ≡ Some u → parts_tell z (line z mk) post ≡ Comes → MayCome (λ w. moved (comes_if (same_context w k.context)) (L w)) post z u
-        come_still z u mine other up comes =
-            let before : MayCome L (downs.Create k ∷ post) z u = t.coming z u mine other up (comes_both (same_context z x) ∙ ap (both Comes) comes) in record {
-              unheld = λ e. before.unheld (sym same ∙ e);
-              new = λ e. together (comes_if (same_context u x)) (parts_tell u (line u mk) post) (L u) ∙ before.new (sym same ∙ e);
-              gone = λ e held. before.gone (sym same ∙ e) (sym (together (comes_if (same_context u x)) (parts_tell u (line u mk) post) (L u)) ∙ held);
+        comes_both : (z : ContextId) → parts_tell z (line z mk) post ≡ Comes → (v : Bool) → both (comes_if v) (parts_tell z (line z mk) post) ≡ both Comes (parts_tell z (line z mk) post)
+        comes_both z comes true = refl
+        comes_both z comes false = comes ∙ sym (ap (both Comes) comes)
+
+        -- what comes later is another
+        different : (z : ContextId) → parts_tell z (line z mk) post ≡ Comes → (v : Bool) → same_context z k.context ≡ v → v ≡ false
+        different z comes false e = refl
+        different z comes true e = absurd (unbrought x (line x mk) post (others_of (come_all post) apart) (ap (λ w. parts_tell w (line w mk) post) (sym (same_context_is z x e)) ∙ comes))
+
+        stage_still : (z : ContextId) → parts_tell z (line z mk) post ≡ Comes → moved (comes_if (same_context z k.context)) (L z) ≡ L z
+        stage_still z comes = ap (λ v. moved (comes_if v) (L z)) (different z comes (same_context z x) refl)
+
+        come_still : (z u : ContextId) → (z.creator == p + 1) ≡ false → above_in mk z ≡ Some u → parts_tell z (line z mk) post ≡ Comes → MayCome (λ w. moved (comes_if (same_context w k.context)) (L w)) post z u
+        come_still z u other up comes =
+            let before : MayCome L (downs.Create k ∷ post) z u = t.coming z u other up (comes_both z comes (same_context z x) ∙ ap (both Comes) comes) in record {
+              unheld = λ e. before.unheld (sym (stage_still z comes) ∙ e);
+              new = λ e. together (comes_if (same_context u x)) (parts_tell u (line u mk) post) (L u) ∙ before.new (sym (stage_still z comes) ∙ e);
+              gone = λ e held. before.gone (sym (stage_still z comes) ∙ e) (sym (together (comes_if (same_context u x)) (parts_tell u (line u mk) post) (L u)) ∙ held);
             }
-          where
-            comes_both : (v : Bool) → both (comes_if v) (parts_tell z (line z mk) post) ≡ both Comes (parts_tell z (line z mk) post)
-            comes_both true = refl
-            comes_both false = comes ∙ sym (ap (both Comes) comes)
-
-            different : (v : Bool) → same_context z k.context ≡ v → v ≡ false
-            different false e = refl
-            different true e = absurd (unbrought x (line x mk) post (others_of (come_all post) apart) (ap (λ w. parts_tell w (line w mk) post) (sym (same_context_is z x e)) ∙ comes))
-
-            same : moved (comes_if (same_context z k.context)) (L z) ≡ L z
-            same = ap (λ v. moved (comes_if v) (L z)) (different (same_context z x) refl)
 
     -- ---- its children
 
@@ -283,17 +294,21 @@ module _ (c : Config) (p : ℕ) (mk : List Making) (l : Lined mk) where
           same_stage true Held old = refl
           same_stage true Gone old = refl
 
-      added_is : (if option_any (same_context y) k.parent then k.context ∷ [] else []) ≡ (if same_context y fits.known.below then k.context ∷ [] else [])
-      added_is = ap (λ o. if option_any (same_context y) o then k.context ∷ [] else []) fits.known.frame
-
       -- where it comes
       order_came : may_come p s k ≡ true → below_of mk y (seen_after p (Came k) s).order ≡ below_of mk y s.order ++ (if option_any (same_context y) k.parent then k.context ∷ [] else [])
       unfolding seen_after
       order_came may =
-          let where_it : (s.holds x ≡ false) × (s.holds a ≡ true) = comes_where c.tabs mk l p s k a fits.known.frame may in
           ap (λ (v : Bool). below_of mk y (if v then with_context k.context (Some k.group) k.parent k.owned (value_in k.fields) s else s).order) may
-          ∙ ap (λ o. below_of mk y (insert s.order (place_for s x o) x)) fits.known.frame
-          ∙ one_below c.tabs mk l p s x a y fits.known.made where_it.0 where_it.1 t.ties t.order ∙ ap (λ zs. below_of mk y s.order ++ zs) (sym added_is)
+          ∙ by_parent k.parent refl
+        where
+          by_parent : (o : Option ContextId) → k.parent ≡ o → below_of mk y (insert s.order (place_for s k.context k.parent) k.context) ≡ below_of mk y s.order ++ (if option_any (same_context y) k.parent then k.context ∷ [] else [])
+          by_parent None is =
+              ap (λ o. below_of mk y (insert s.order (place_for s x o) x)) is ∙ top_below c.tabs mk l p s x y (sym fits.known.above ∙ is)
+              ∙ sym (append-nil (below_of mk y s.order)) ∙ ap (λ o. below_of mk y s.order ++ (if option_any (same_context y) o then x ∷ [] else [])) (sym is)
+          by_parent (Some a) is =
+              let where_it : (s.holds x ≡ false) × (s.holds a ≡ true) = comes_where c.tabs mk l p s k a is may in
+              ap (λ o. below_of mk y (insert s.order (place_for s x o) x)) is ∙ one_below c.tabs mk l p s x a y (sym fits.known.above ∙ is) where_it.0 where_it.1 t.ties t.order
+              ∙ ap (λ o. below_of mk y s.order ++ (if option_any (same_context y) o then x ∷ [] else [])) (sym is)
 
       order_stayed : may_come p s k ≡ false → below_of mk y (seen_after p (Came k) s).order ≡ below_of mk y s.order
       unfolding seen_after
@@ -352,15 +367,19 @@ module _ (c : Config) (p : ℕ) (mk : List Making) (l : Lined mk) where
       came_below = record {
         children = came_children;
         old = all_join (λ z. M z ≡ Coming → ⊥) xs added (all_from (λ z. L z ≡ Coming → ⊥) (λ z. M z ≡ Coming → ⊥) xs (λ z old. never_new (comes_if (same_context z x)) (L z) old) b.old) (old_added (option_any (same_context y) k.parent));
-        below = all_join (λ z. above_in mk z ≡ Some y) xs added b.below (subst (AllByRecursion (λ z. above_in mk z ≡ Some y)) (sym added_is) (below_added (same_context y a) refl));
+        below = all_join (λ z. above_in mk z ≡ Some y) xs added b.below (below_added (option_any (same_context y) k.parent) refl);
       }
         where
           old_added : (v : Bool) → AllByRecursion (λ z. moved (comes_if (same_context z k.context)) (L z) ≡ Coming → ⊥) (if v then k.context ∷ [] else [])
           old_added true = ((λ e. comes_old (L x) (sym (ap (λ v. moved (comes_if v) (L x)) (same_itself x)) ∙ e)), tt)
           old_added false = tt
 
-          below_added : (v : Bool) → same_context y fits.known.below ≡ v → AllByRecursion (λ z. above_in mk z ≡ Some y) (if v then k.context ∷ [] else [])
-          below_added true is = (fits.known.made ∙ ap Some (sym (same_context_is y a is)), tt)
+          below_that : (o : Option ContextId) → option_any (same_context y) o ≡ true → o ≡ Some y
+          below_that None e = absurd cc
+          below_that (Some a) e = ap Some (sym (same_context_is y a e))
+
+          below_added : (v : Bool) → option_any (same_context y) k.parent ≡ v → AllByRecursion (λ z. above_in mk z ≡ Some y) (if v then k.context ∷ [] else [])
+          below_added true is = (sym fits.known.above ∙ below_that k.parent is, tt)
           below_added false isnt = tt
 
   -- ---- a context goes, and behind it nothing comes
@@ -384,13 +403,14 @@ module _ (c : Config) (p : ℕ) (mk : List Making) (l : Lined mk) where
     went_midway = record {
       ties = seen_still c.tabs p mk s (Went w) l tt t.ties;
       order = held_order_still c.tabs mk l p s (Went w) tt t.ties t.order;
-      stages = λ z mine left. by_line z mine left (is_among w (line z mk)) refl;
-      coming = λ z u mine other up comes. absurd (unbrought z (line z mk) post (subst (AllByRecursion (λ j. same_context j.context z ≡ false)) (sym none) tt) comes);
+      stages = λ z left. by_line z left (is_among w (line z mk)) refl;
+      coming = λ z u other up comes. absurd (unbrought z (line z mk) post (subst (AllByRecursion (λ j. same_context j.context z ≡ false)) (sym none) tt) comes);
+      coming_top = λ z other top comes. absurd (unbrought z (line z mk) post (subst (AllByRecursion (λ j. same_context j.context z ≡ false)) (sym none) tt) comes);
     }
       where
-        by_line : (z : ContextId) → is_of_its_tabs c p mk z ≡ true → is_goes (parts_tell z (line z mk) post) ≡ false → (v : Bool) → is_among w (line z mk) ≡ v → is_held (moved (goes_if v) (L z)) ≡ (seen_after p (Went w) s).holds z
-        by_line z mine left true on = sym (holds_then z true on (s.holds z) refl)
-        by_line z mine left false off = t.stages z mine (goes_goes (is_among w (line z mk)) (parts_tell z (line z mk) post) ∙ ap₂ (λ u v. u || v) off left) ∙ sym (holds_then z false off (s.holds z) refl)
+        by_line : (z : ContextId) → is_goes (parts_tell z (line z mk) post) ≡ false → (v : Bool) → is_among w (line z mk) ≡ v → is_held (moved (goes_if v) (L z)) ≡ (seen_after p (Went w) s).holds z
+        by_line z left true on = sym (holds_then z true on (s.holds z) refl)
+        by_line z left false off = t.stages z (goes_goes (is_among w (line z mk)) (parts_tell z (line z mk) post) ∙ ap₂ (λ u v. u || v) off left) ∙ sym (holds_then z false off (s.holds z) refl)
 
     pub gone_below : (y : ContextId) (xs : List ContextId) → MidwayBelow y s L xs (downs.Discard w ∷ post) → MidwayBelow y (seen_after p (Went w) s) (λ z. moved (goes_if (is_among w (line z mk))) (L z)) xs post
     gone_below y xs b = record {
@@ -430,8 +450,9 @@ module _ (c : Config) (p : ℕ) (mk : List Making) (l : Lined mk) where
   same_midway s after L post same t = record {
     ties = same.ties;
     order = same_members s after same t.order;
-    stages = λ x mine left. t.stages x mine left ∙ sym (same.holds x);
+    stages = λ x left. t.stages x left ∙ sym (same.holds x);
     coming = t.coming;
+    coming_top = t.coming_top;
   }
 
   same_below : (s after : Seen) (y : ContextId) (L : ContextId → Stage) (xs : List ContextId) (post : List DownPart) → SameOrder s after → MidwayBelow y s L xs post → MidwayBelow y after L (xs ++ []) post
@@ -480,7 +501,7 @@ module _ (c : Config) (p : ℕ) (mk : List Making) (l : Lined mk) where
     more_stage : (a : Effect) (L : ContextId → Stage) (z : ContextId) (post : List DownPart) → moved (parts_tell z (line z mk) post) (moved a (L z)) ≡ moved (both a (parts_tell z (line z mk) post)) (L z)
     more_stage a L z post = together a (parts_tell z (line z mk) post) (L z)
 
-    pub taken_all : (y : ContextId) (parts : List DownPart) (s : Seen) (L : ContextId → Stage) (xs : List ContextId) → ComeFirst parts → AllByRecursion (ComingFits c p mk) (come_all parts) → ComeApart (come_all parts) → AllByRecursion (PartFits p made) parts
+    pub taken_all : (y : ContextId) (parts : List DownPart) (s : Seen) (L : ContextId → Stage) (xs : List ContextId) → ComeFirst parts → AllByRecursion (ComingFits c p mk) (come_all parts) → ComeApart (come_all parts) → AllByRecursion (SingleFits p made) parts
         → Midway s L parts → MidwayBelow y s L xs parts → Taken (behind_parts s parts) (λ z. moved (parts_tell z (line z mk) parts) (L z)) y (xs ++ parts_bring y parts)
     unfolding after_parts
     taken_all y [] s L xs first come apart kinds t b = record { midway = t; below = subst (λ zs. MidwayBelow y s L zs []) (sym (append-nil xs)) b }
@@ -502,13 +523,13 @@ module _ (c : Config) (p : ℕ) (mk : List Making) (l : Lined mk) where
         (went_midway s L w parts (first.0 refl) t) (gone_below s L w parts (first.0 refl) t y xs b)))
     taken_all y (downs.Commit x cs ∷ parts) s L xs first come apart kinds t b =
         let same : SameOrder s (behind_part (downs.Commit x cs) s) = commit_same x cs s t.ties in
-        let still : Midway s L parts = record { ties = t.ties; order = t.order; stages = t.stages; coming = λ z u mine other up comes. record { unheld = (t.coming z u mine other up comes).unheld; new = (t.coming z u mine other up comes).new; gone = (t.coming z u mine other up comes).gone } } in
+        let still : Midway s L parts = record { ties = t.ties; order = t.order; stages = t.stages; coming = λ z u other up comes. record { unheld = (t.coming z u other up comes).unheld; new = (t.coming z u other up comes).new; gone = (t.coming z u other up comes).gone }; coming_top = t.coming_top } in
         let below : MidwayBelow y s L xs parts = record { children = b.children; old = b.old; below = b.below } in
         taken_all y parts (behind_part (downs.Commit x cs) s) L xs first.1 come apart kinds.1 (same_midway s (behind_part (downs.Commit x cs) s) L parts same still)
         (subst (λ zs. MidwayBelow y (behind_part (downs.Commit x cs) s) L zs parts) (append-nil xs) (same_below s (behind_part (downs.Commit x cs) s) y L xs parts same below))
     taken_all y (downs.Kill ∷ parts) s L xs first come apart kinds t b =
         let same : SameOrder s (behind_part downs.Kill s) = kill_same s t.ties in
-        let still : Midway s L parts = record { ties = t.ties; order = t.order; stages = t.stages; coming = λ z u mine other up comes. record { unheld = (t.coming z u mine other up comes).unheld; new = (t.coming z u mine other up comes).new; gone = (t.coming z u mine other up comes).gone } } in
+        let still : Midway s L parts = record { ties = t.ties; order = t.order; stages = t.stages; coming = λ z u other up comes. record { unheld = (t.coming z u other up comes).unheld; new = (t.coming z u other up comes).new; gone = (t.coming z u other up comes).gone }; coming_top = t.coming_top } in
         let below : MidwayBelow y s L xs parts = record { children = b.children; old = b.old; below = b.below } in
         taken_all y parts (behind_part downs.Kill s) L xs first.1 come apart kinds.1 (same_midway s (behind_part downs.Kill s) L parts same still)
         (subst (λ zs. MidwayBelow y (behind_part downs.Kill s) L zs parts) (append-nil xs) (same_below s (behind_part downs.Kill s) y L xs parts same below))

@@ -12,7 +12,8 @@ use Rattle.wire_msgs.specs.declared.config.Config.{Config}
 use Rattle.wire_msgs.specs.declared.refusal.Refusal.TheVariants.{Empty}
 use Rattle.journal.specs.declared.entry.Step.{Step}
 use Rattle.journal.specs.declared.entry.Step.TheVariants.{Act, Take, Raw as RawStep, ParentAct, Hear}
-use Rattle.journal.specs.Step.{StepFits, IsPlayed, IsPlayedByProcess}
+use Rattle.protocol.specs.Played.{IsPlayedByParent, IsPlayedByProcess}
+use Rattle.journal.specs.Step.{StepFits}
 use Rattle.traces.specs.Event.Event.{Writes}
 use Rattle.traces.specs.Links.{writes, writes_waiting, bundles_waiting, hears}
 use Rattle.model.specs.Moments.{Moment, Written, ProcessEvent, events_of, facts_now, only_answer, act_moment, if_running, taken_moment, raw_moment, heard_moment, moment}
@@ -82,8 +83,10 @@ act_plays (own.Frame a) played = tt
 act_plays (own.Drop x) played = tt
 act_plays (_) played = absurd played
 
-parent_plays : (n : ℕ) (action : ParentAction) → IsPlayed n action → ParentPlays n action
+parent_plays : (n : ℕ) (action : ParentAction) → IsPlayedByParent n action → ParentPlays n action
 parent_plays n (parents.Set x t) played = tt
+parent_plays n (parents.Tab q named) played = played
+parent_plays n (parents.Subscribe q g) played = played
 parent_plays n (parents.Discard x) played = tt
 parent_plays n (parents.Kill q) played = played
 parent_plays n (_) played = absurd played

@@ -32,7 +32,7 @@ module _ (c : Config) (allows : Field → Bool) (p q : ℕ) (ms : List Moment) (
   other_ended : (n : ℕ) (cause : EndCause) (ys : List Saying) → Tellable c p (said ms) ys [] → IsEntry (end_ruling (facts_behind c ms) (λ y says. y ∷ says) n q cause ys)
   other_ended n cause ys t =
       hear_tells c p q ms w n (answers.Ended cause) (λ r. if r == q then end_parts cause else []) (Ended q cause ∷ ys) [] (eqb_swapped q p other)
-      (record { fits = (low, t.fits); posted = OnePosted (Ended q cause) ys [] [] t.posted other refl })
+      (record { fits = (low, t.fits); plain = (tt, t.plain); posted = OnePosted (Ended q cause) ys [] [] t.posted other refl })
       (ap (λ (b : Bool). if b then end_parts cause else []) (eqb_swapped q p other) ∙ sym nothing_in_order)
 
   other_done : (n : ℕ) (b : UpBundle) (ys : List Saying) → Tellable c p (said ms) ys [] → first_fault (hear_rules allows q q) (facts_behind c ms) (λ y says. y ∷ says) 1 ys b.parts ≡ None
@@ -60,7 +60,7 @@ module _ (c : Config) (allows : Field → Bool) (p q : ℕ) (ms : List Moment) (
       (λ e. other_done n b ys t (later_none (envelope_fault (asked c.tabs (said ms)) q b) (first_fault (hear_rules allows q q) (facts_behind c ms) (λ y says. y ∷ says) 1 ys b.parts) e))
 
   counted_tells : (v : Bool) → Tellable c p (said ms) (if v then Counted q ∷ [] else []) []
-  counted_tells true = record { fits = (tt, tt); posted = OnePosted (Counted q) [] [] [] (nothing_tells c p (said ms)).posted other refl }
+  counted_tells true = record { fits = (tt, tt); plain = (tt, tt); posted = OnePosted (Counted q) [] [] [] (nothing_tells c p (said ms)).posted other refl }
   counted_tells false = nothing_tells c p (said ms)
 
   pub other_heard : (n : ℕ) (b : UpBundle) → IsEntry (bundle_ruling (facts_behind c ms) (λ y says. y ∷ says) n allows q b [])

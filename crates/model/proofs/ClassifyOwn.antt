@@ -87,9 +87,6 @@ module _ (c : Config) (p : ℕ) (ms : List Moment) where
   abbrev IsEntry : Step (List Doing) → Type 0
   IsEntry step = Entry c p ms (acted c p ms step)
 
-  itself : (p == p) ≡ true
-  itself = eq-eqb p p refl
-
   done : Action → Step (List Doing)
   done action = record {
     answer = answer p (own_asked c.tabs p (did_by p ms)) action;

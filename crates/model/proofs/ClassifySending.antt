@@ -7,12 +7,12 @@ use Rattle.wire_msgs.specs.declared.config.Config.{Config}
 use Rattle.wire_msgs.specs.declared.part.DownPart.{DownPart}
 use Rattle.protocol.specs.Questions.{Facts}
 use Rattle.protocol.specs.Sayings.{Saying}
-use Rattle.protocol.specs.Sayings.Saying.{Ended, Sent}
+use Rattle.protocol.specs.Sayings.Saying.{Subscribed, Ended, Sent}
 use Rattle.protocol.specs.Bundle.{is_no_bundle, after_sending}
 use Rattle.traces.specs.Event.Event.{Ends}
 use Rattle.model.specs.Moments.{is_end_of, ends}
 use Rattle.model.proofs.Cases.{by_if}
-use Rattle.model.proofs.Entry.{FitsOver, IsOfOthers, Posted, IsSending}
+use Rattle.model.proofs.Entry.{FitsOver, IsOfOthers, Posted, IsSending, IsNoJoin, JoinsLast}
 use Rattle.model.proofs.Entry.Posted.{NonePosted, OnePosted}
 
 -- what is said behind the bundles that the first n processes are sent
@@ -70,22 +70,39 @@ sending_ends facts (suc n) sends ys p = ends_either p n (is_no_bundle (sends n))
 
 -- ---- it fits, and posts nothing
 
--- what was said fits, is of others, and posts these parts
-pub record Tellable (c : Config) (p : ℕ) (old ys : List Saying) (ds : List DownPart) : Type 0 where
+-- what was said fits, is of others, and posts these parts; a subscription is said last
+pub record Joinable (c : Config) (p : ℕ) (old ys : List Saying) (ds : List DownPart) : Type 0 where
   pub fits : FitsOver c old ys
+  pub joins : JoinsLast ys
   pub posted : Posted c p old ys ds
 
-pub tell_more : (c : Config) (p : ℕ) (old ys : List Saying) (ds : List DownPart) → Tellable c p old ys ds → (n : ℕ) → Tellable c p old (Sent n ∷ ys) ds
+-- the same where nobody is subscribed
+pub record Tellable (c : Config) (p : ℕ) (old ys : List Saying) (ds : List DownPart) : Type 0 where
+  pub fits : FitsOver c old ys
+  pub plain : AllByRecursion IsNoJoin ys
+  pub posted : Posted c p old ys ds
+
+pub joins_last : (ys : List Saying) → AllByRecursion IsNoJoin ys → JoinsLast ys
+joins_last [] plain = tt
+joins_last (Sent q ∷ ys) plain = joins_last ys plain.1
+joins_last (Subscribed q g ∷ ys) plain = absurd plain.0
+joins_last (_ ∷ ys) plain = plain.1
+
+pub joinable : (c : Config) (p : ℕ) (old ys : List Saying) (ds : List DownPart) → Tellable c p old ys ds → Joinable c p old ys ds
+joinable c p old ys ds t = record { fits = t.fits; joins = joins_last ys t.plain; posted = t.posted }
+
+pub tell_more : (c : Config) (p : ℕ) (old ys : List Saying) (ds : List DownPart) → Joinable c p old ys ds → (n : ℕ) → Joinable c p old (Sent n ∷ ys) ds
 tell_more c p old ys ds t n = record {
   fits = (tt, t.fits);
+  joins = t.joins;
   posted = subst (Posted c p old (Sent n ∷ ys)) (append-nil ds) (OnePosted (Sent n) ys ds [] t.posted tt refl);
 }
 
 pub sending_tells : (c : Config) (p : ℕ) (old : List Saying) (ds : List DownPart) (facts : List Saying → Facts) (n : ℕ) (sends : ℕ → List DownPart) (ys : List Saying)
-    → Tellable c p old ys ds → Tellable c p old (behind facts n sends ys) ds
+    → Joinable c p old ys ds → Joinable c p old (behind facts n sends ys) ds
 sending_tells c p old ds facts zero sends ys t = t
 sending_tells c p old ds facts (suc n) sends ys t =
-    by_if (λ zs. Tellable c p old zs ds) (is_no_bundle (sends n)) (behind facts n sends ys) (Sent n ∷ behind facts n sends ys)
+    by_if (λ zs. Joinable c p old zs ds) (is_no_bundle (sends n)) (behind facts n sends ys) (Sent n ∷ behind facts n sends ys)
     (λ none. sending_tells c p old ds facts n sends ys t) (λ some. tell_more c p old (behind facts n sends ys) ds (sending_tells c p old ds facts n sends ys t) n)
 
 -- what is of others ends no process itself

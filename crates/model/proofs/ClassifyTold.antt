@@ -29,7 +29,7 @@ use Rattle.model.proofs.Cases.{both_true}
 use Rattle.model.proofs.Entry.{Entry, IsCommitOf, PostOf}
 use Rattle.model.proofs.Entry.Entry.{Tells}
 use Rattle.model.proofs.Entry.Posted.{NonePosted, OnePosted}
-use Rattle.model.proofs.ClassifySending.{Tellable, behind, sending_tells, told_ends, eqb_swapped}
+use Rattle.model.proofs.ClassifySending.{Joinable, Tellable, joinable, behind, sending_tells, told_ends, eqb_swapped}
 
 pub by_option : {A B : Type 0} (P : B → Type 0) (g : A → B) (o : Option A) (d : B) → ((a : A) → o ≡ Some a → P (g a)) → (o ≡ None → P d) → P (option_map_or g o d)
 by_option P g None d some none = none refl
@@ -37,11 +37,12 @@ by_option P g (Some a) d some none = some a refl
 
 -- ---- a moment that tells
 
-pub tells_told : (c : Config) (p : ℕ) (ms : List Moment) (m : Moment) (ds sends : List DownPart) → m.did p ≡ [] → Tellable c p (said ms) m.says ds → sends ≡ in_order ds
+pub tells_told : (c : Config) (p : ℕ) (ms : List Moment) (m : Moment) (ds sends : List DownPart) → m.did p ≡ [] → Joinable c p (said ms) m.says ds → sends ≡ in_order ds
     → m.events p ≡ ends p m.says ++ told (length ms + 1) m.says (bundle_for (asked c.tabs (m.says ++ said ms)) p sends) ∷ [] → Entry c p ms m
 tells_told c p ms m ds sends did t is events = Tells ds (record {
   did = did;
   fits = t.fits;
+  joins = t.joins;
   posted = t.posted;
   events =
       events ∙ ap (λ es. es ++ told (length ms + 1) m.says (bundle_for (asked c.tabs (m.says ++ said ms)) p sends) ∷ []) (told_ends c p (said ms) m.says ds t.posted)
@@ -60,15 +61,19 @@ facts_behind c ms says = asked c.tabs (says ++ said ms)
 abbrev pub ruling_behind : Config → List Moment → ℕ → Answer → (ℕ → List DownPart) → List Saying → Ruling (List Saying)
 ruling_behind c ms n answer sends ys = ruling (facts_behind c ms) (λ y says. y ∷ says) n answer sends ys
 
+pub parent_joins : (c : Config) (p : ℕ) (ms : List Moment) (n : ℕ) (answer : Answer) (sends : ℕ → List DownPart) (ys : List Saying) (ds : List DownPart)
+    → Joinable c p (said ms) ys ds → sends p ≡ in_order ds → Entry c p ms (parent_moment c ms (ruling_behind c ms n answer sends ys))
+parent_joins c p ms n answer sends ys ds t is =
+    tells_told c p ms (parent_moment c ms (ruling_behind c ms n answer sends ys)) ds (sends p) refl (sending_tells c p (said ms) ds (facts_behind c ms) n sends ys t) is refl
+
 pub parent_tells : (c : Config) (p : ℕ) (ms : List Moment) (n : ℕ) (answer : Answer) (sends : ℕ → List DownPart) (ys : List Saying) (ds : List DownPart)
     → Tellable c p (said ms) ys ds → sends p ≡ in_order ds → Entry c p ms (parent_moment c ms (ruling_behind c ms n answer sends ys))
-parent_tells c p ms n answer sends ys ds t is =
-    tells_told c p ms (parent_moment c ms (ruling_behind c ms n answer sends ys)) ds (sends p) refl (sending_tells c p (said ms) ds (facts_behind c ms) n sends ys t) is refl
+parent_tells c p ms n answer sends ys ds t is = parent_joins c p ms n answer sends ys ds (joinable c p (said ms) ys ds t) is
 
 pub hear_tells : (c : Config) (p q : ℕ) (ms : List Moment) (w : Written) (n : ℕ) (answer : Answer) (sends : ℕ → List DownPart) (ys : List Saying) (ds : List DownPart)
     → (p == q) ≡ false → Tellable c p (said ms) ys ds → sends p ≡ in_order ds → Entry c p ms (hear_moment c q ms w (ruling_behind c ms n answer sends ys))
 hear_tells c p q ms w n answer sends ys ds other t is =
-    tells_told c p ms (hear_moment c q ms w (ruling_behind c ms n answer sends ys)) ds (sends p) refl (sending_tells c p (said ms) ds (facts_behind c ms) n sends ys t) is
+    tells_told c p ms (hear_moment c q ms w (ruling_behind c ms n answer sends ys)) ds (sends p) refl (sending_tells c p (said ms) ds (facts_behind c ms) n sends ys (joinable c p (said ms) ys ds t)) is
     (ap (λ (b : Bool). events_if b) other)
   where
     kept : List Saying
@@ -80,7 +85,7 @@ hear_tells c p q ms w n answer sends ys ds other t is =
         else told (length ms + 1) kept (bundle_for (asked c.tabs (kept ++ said ms)) p (sends p)) ∷ [])
 
 pub nothing_tells : (c : Config) (p : ℕ) (old : List Saying) → Tellable c p old [] []
-nothing_tells c p old = record { fits = tt; posted = NonePosted }
+nothing_tells c p old = record { fits = tt; plain = tt; posted = NonePosted }
 
 pub nothing_in_order : in_order [] ≡ []
 unfolding parts_with_all
@@ -124,12 +129,14 @@ module _ (c : Config) (allows : Field → Bool) (q p : ℕ) (old : List Saying) 
           (ds ++ posts f q (ups.Create x a) (notes.Create x (if b then Late else Done)) p)
       by_late true e = record {
         fits = (record { frame = tests.0; new = tests.1; below = tests.2 }, t.fits);
+        plain = (tt, t.plain);
         posted = OnePosted (BornDead q x a) ys ds (if p == q then downs.Discard x ∷ [] else []) t.posted other (ap (λ (b : Bool). if b then downs.Discard x ∷ [] else []) (eqb_swapped q p other));
       }
       by_late false e =
           let both : (f.contexts.live a ≡ true) × (is_owner f q a ≡ true) = both_true (f.contexts.live a) (is_owner f q a) (not_false (f.contexts.live a && is_owner f q a) e) in
           record {
             fits = (record { frame = tests.0; new = tests.1; live = both.0; owner = both.1 }, t.fits);
+            plain = (tt, t.plain);
             posted = OnePosted (Made q x a) ys ds (if is_other_told f q p a then downs.Create (frame_known f x a) ∷ [] else []) t.posted other
                 (ap (λ (b : Bool). if b then downs.Create (frame_known f x a) ∷ [] else []) (other_told f a));
           }
@@ -143,11 +150,12 @@ module _ (c : Config) (allows : Field → Bool) (q p : ℕ) (old : List Saying) 
           (ds ++ posts f q (ups.Drop x) (notes.Drop x (if b then Done else Ignored)) p)
       by_live true e = record {
         fits = (e, t.fits);
+        plain = (tt, t.plain);
         posted = OnePosted (Removed x (Some q)) ys ds (if is_other_told f q p x then downs.Discard x ∷ [] else []) t.posted tt
             (ap (λ (b : Bool). if b then downs.Discard x ∷ [] else []) (other_told f x));
       }
       by_live false e = subst (Tellable c p old ys) (sym (append-nil ds)) t
-  one_part n (ups.DropAck x) ys ds clear t = record { fits = (tt, t.fits); posted = OnePosted (Acked q x) ys ds [] t.posted tt refl }
+  one_part n (ups.DropAck x) ys ds clear t = record { fits = (tt, t.fits); plain = (tt, t.plain); posted = OnePosted (Acked q x) ys ds [] t.posted tt refl }
   one_part n (ups.Commit x t) ys ds clear tl = by_judged (is_judged (asked c.tabs (ys ++ old)) q x) refl
     where
       f : Facts
@@ -172,6 +180,7 @@ module _ (c : Config) (allows : Field → Bool) (q p : ℕ) (old : List Saying) 
           (ds ++ posts f q (ups.Commit x t) (if b then notes.Commit x (field_notes allows f q x t) else notes.CommitIgnored x) p)
       by_judged true e = record {
         fits = ((both_true (f.contexts.live x) (is_told f q x) e).0, tl.fits);
+        plain = (tt, tl.plain);
         posted = OnePosted (Wrote x u) ys ds (if p == q then back else if is_told f p x then commit_unless_empty x u else []) tl.posted tt
             (subst (λ (b : Bool). PostOf f p (Wrote x u) (if b then back else if is_told f p x then commit_unless_empty x u else [])) (sym (eqb_swapped q p other)) (by_told (is_told f p x) refl));
       }

@@ -1,7 +1,7 @@
 -- What a bundle holds for a field: whether the context comes or goes by it, and the value that is given last.
-use Rattle.std.proofs.Common.{◌≡◌, ◌⊎◌, inl, inr, ℕ, ◌<◌, Bool, true, false, if◌then◌else◌, Option, None, Some, List, [], ◌∷◌, ◌++◌, is_some, refl, ap, ap₂, sym, subst, ◌∙◌, arith}
+use Rattle.std.proofs.Common.{◌≡◌, ℕ, Bool, true, false, if◌then◌else◌, Option, None, Some, List, [], ◌∷◌, ◌++◌, map, refl, ap, ap₂, sym, subst, ◌∙◌, arith}
 use Rattle.std.specs.Prelude.{nat_lt}
-use Rattle.std.specs.List.{AllByRecursion, list_any}
+use Rattle.std.specs.List.{AllByRecursion}
 use Rattle.std.proofs.lemmas.Bool.{lt-ltb, ltb-true, ltb-false}
 use Rattle.fission_ids.specs.declared.context.ContextId.{ContextId}
 use Rattle.fission_ids.specs.Ids.{same_context}
@@ -10,18 +10,13 @@ use Rattle.field_table.specs.declared.value.Value.{Value}
 use Rattle.field_table.specs.Field.{initial}
 use Rattle.field_table.specs.Table.{value_in, initial_table}
 use Rattle.field_table.proofs.Tables.{value_in-map}
-use Rattle.transaction.specs.Transaction.{new_value}
-use Rattle.wire_msgs.specs.declared.config.Config.{Config}
 use Rattle.wire_msgs.specs.declared.part.DownPart.{DownPart}
 use Rattle.wire_msgs.specs.declared.part.DownPart.TheVariants as downs
 use Rattle.wire_msgs.specs.declared.part.Known.{Known}
 use Rattle.protocol.specs.Fold.{or_later}
-use Rattle.protocol.specs.Hear.{frame_known}
 use Rattle.protocol.specs.Order.{down_rank, parts_with, parts_with_all, in_order}
-use Rattle.protocol.specs.Questions.{Facts, is_told}
 use Rattle.protocol.specs.Sayings.{Saying}
-use Rattle.protocol.specs.Sayings.Saying.{Opened, Made, BornDead, Removed, Wrote, Acked, Subscribed, Counted, Sent, Ended}
-use Rattle.protocol.proofs.Notes.{unmodified}
+use Rattle.protocol.specs.Sayings.Saying.{Wrote}
 use Rattle.traces.specs.Field.{Content}
 use Rattle.traces.specs.Field.Content.{Nothing, Gives, Begins, Removes, Leaves}
 use Rattle.traces.specs.Rules.{IsStay}
@@ -29,18 +24,11 @@ use Rattle.traces.specs.Words.{Stage, or_else, after, number_after, leaving_afte
 use Rattle.traces.specs.Words.Stage.{Coming, Held, Gone}
 use Rattle.trees.specs.Look.{Effect, moved}
 use Rattle.trees.specs.Look.Effect.{Stays, Comes, Goes}
-use Rattle.model.specs.Lines.{Making, line, root, is_among}
-use Rattle.model.specs.Parent.{asked, ended}
-use Rattle.model.specs.Trees.{comes_if, goes_if, both, says_do, is_of_its_tabs, parts_tell}
-use Rattle.model.specs.View.{value_for, value_said, given, begun, content_of}
-use Rattle.model.proofs.Arranging.{put, put_is, come_all, ComeFirst, come_with, come_ordered, tell_ordered}
-use Rattle.model.proofs.Cases.{same_context_is}
-use Rattle.model.proofs.Entry.{IsCommitOf, IsOfOthers, PostOf, Posted}
-use Rattle.model.proofs.Entry.Posted.{NonePosted, OnePosted}
-use Rattle.model.proofs.Fitting.{SayingFits, AllFit, FactsTies}
-use Rattle.model.proofs.Lining.{Lined}
-use Rattle.model.proofs.Posting.{effects_posted, named_told, posted_others}
-use Rattle.model.proofs.Telling.{Saids, saids_before, facts_behind}
+use Rattle.model.specs.Lines.{Making, line, is_among}
+use Rattle.model.specs.Trees.{comes_if, goes_if, both, says_do, parts_tell}
+use Rattle.model.specs.View.{value_for, value_said, given, begun, singles, content_of}
+use Rattle.model.proofs.Arranging.{put, put_is, come_all, ComeFirst}
+use Rattle.model.proofs.SinglesOrdered.{AllCome, all_come_ordered, single_tells, singles_first}
 
 -- ---- what a content does to the stage
 
@@ -143,7 +131,7 @@ leaving_stays Leaves m n stay = absurd stay
 
 -- ---- what all parts together hold
 
--- by what comes and goes, the value that is given last, and the initial one
+-- by what comes and goes, the value that is given last, and the one that comes
 abbrev pub content_by : Effect → Option Value → Value → Content Value
 content_by Goes o v = Removes
 content_by Comes o v = Begins (or_else o v)
@@ -167,9 +155,9 @@ later_joined : {A : Type 0} (a b c : Option A) → or_later (or_later a b) c ≡
 later_joined None b c = refl
 later_joined (Some x) b c = refl
 
--- what comes has the initial value
-abbrev pub ComesInitially : ContextId → Field → Known → Type 0
-ComesInitially x fld k = same_context x k.context ≡ true → value_in k.fields fld ≡ initial fld
+-- what comes has this value
+abbrev pub ComesWith : ContextId → Field → Value → Known → Type 0
+ComesWith x fld v k = same_context x k.context ≡ true → value_in k.fields fld ≡ v
 
 given_by : (o p : Option Value) (e : Effect) (v : Value) → (e ≡ Comes → ⊥) → given o (content_by e p v) ≡ content_by e (or_later p o) v
 given_by None p Goes v other = refl
@@ -203,27 +191,39 @@ none_comes x ln (downs.Tell w actor text ∷ parts) none e = none_comes x ln par
 none_comes x ln (downs.Reply q outcome ∷ parts) none e = none_comes x ln parts none e
 none_comes x ln (downs.Kill ∷ parts) none e = none_comes x ln parts none e
 
-pub content_is : (x : ContextId) (ln : List ContextId) (fld : Field) (parts : List DownPart) → ComeFirst parts → AllByRecursion (ComesInitially x fld) (come_all parts)
-    → content_of x ln fld parts ≡ content_by (parts_tell x ln parts) (parts_value x fld parts) (initial fld)
-content_is x ln fld [] first all = refl
-content_is x ln fld (downs.Create k ∷ parts) first all = by_same (same_context x k.context) refl (content_is x ln fld parts first.1 all.1)
+pub content_with : (x : ContextId) (ln : List ContextId) (fld : Field) (v : Value) (parts : List DownPart) → ComeFirst parts → AllByRecursion (ComesWith x fld v) (come_all parts)
+    → content_of x ln fld parts ≡ content_by (parts_tell x ln parts) (parts_value x fld parts) v
+content_with x ln fld v [] first all = refl
+content_with x ln fld v (downs.Create k ∷ parts) first all = by_same (same_context x k.context) refl (content_with x ln fld v parts first.1 all.1)
   where
-    by_same : (b : Bool) → same_context x k.context ≡ b → content_of x ln fld parts ≡ content_by (parts_tell x ln parts) (parts_value x fld parts) (initial fld)
-        → (if b then begun (value_in k.fields fld) (content_of x ln fld parts) else content_of x ln fld parts) ≡ content_by (both (comes_if b) (parts_tell x ln parts)) (or_later (parts_value x fld parts) None) (initial fld)
+    by_same : (b : Bool) → same_context x k.context ≡ b → content_of x ln fld parts ≡ content_by (parts_tell x ln parts) (parts_value x fld parts) v
+        → (if b then begun (value_in k.fields fld) (content_of x ln fld parts) else content_of x ln fld parts) ≡ content_by (both (comes_if b) (parts_tell x ln parts)) (or_later (parts_value x fld parts) None) v
     by_same true e rest =
-        ap (begun (value_in k.fields fld)) rest ∙ begun_by (parts_value x fld parts) (parts_tell x ln parts) (initial fld) (value_in k.fields fld) (all.0 e)
-        ∙ ap (λ o. content_by (both Comes (parts_tell x ln parts)) o (initial fld)) (sym (later_none (parts_value x fld parts)))
-    by_same false e rest = rest ∙ ap (λ o. content_by (parts_tell x ln parts) o (initial fld)) (sym (later_none (parts_value x fld parts)))
-content_is x ln fld (downs.Commit y t ∷ parts) first all =
-    ap (given (value_for x fld y t)) (content_is x ln fld parts first.1 all)
-    ∙ given_by (value_for x fld y t) (parts_value x fld parts) (parts_tell x ln parts) (initial fld) (none_comes x ln parts (first.0 refl))
-content_is x ln fld (downs.Discard w ∷ parts) first all = by_line (is_among w ln) (content_is x ln fld parts first.1 all)
+        ap (begun (value_in k.fields fld)) rest ∙ begun_by (parts_value x fld parts) (parts_tell x ln parts) v (value_in k.fields fld) (all.0 e)
+        ∙ ap (λ o. content_by (both Comes (parts_tell x ln parts)) o v) (sym (later_none (parts_value x fld parts)))
+    by_same false e rest = rest ∙ ap (λ o. content_by (parts_tell x ln parts) o v) (sym (later_none (parts_value x fld parts)))
+content_with x ln fld v (downs.Commit y t ∷ parts) first all =
+    ap (given (value_for x fld y t)) (content_with x ln fld v parts first.1 all)
+    ∙ given_by (value_for x fld y t) (parts_value x fld parts) (parts_tell x ln parts) v (none_comes x ln parts (first.0 refl))
+content_with x ln fld v (downs.Discard w ∷ parts) first all = by_line (is_among w ln) (content_with x ln fld v parts first.1 all)
   where
-    by_line : (b : Bool) → content_of x ln fld parts ≡ content_by (parts_tell x ln parts) (parts_value x fld parts) (initial fld)
-        → (if b then Removes else content_of x ln fld parts) ≡ content_by (both (goes_if b) (parts_tell x ln parts)) (or_later (parts_value x fld parts) None) (initial fld)
+    by_line : (b : Bool) → content_of x ln fld parts ≡ content_by (parts_tell x ln parts) (parts_value x fld parts) v
+        → (if b then Removes else content_of x ln fld parts) ≡ content_by (both (goes_if b) (parts_tell x ln parts)) (or_later (parts_value x fld parts) None) v
     by_line true rest = refl
-    by_line false rest = rest ∙ ap (λ o. content_by (parts_tell x ln parts) o (initial fld)) (sym (later_none (parts_value x fld parts)))
-content_is x ln fld (_ ∷ parts) first all = content_is x ln fld parts first.1 all ∙ ap (λ o. content_by (parts_tell x ln parts) o (initial fld)) (sym (later_none (parts_value x fld parts)))
+    by_line false rest = rest ∙ ap (λ o. content_by (parts_tell x ln parts) o v) (sym (later_none (parts_value x fld parts)))
+content_with x ln fld v (_ ∷ parts) first all =
+    content_with x ln fld v parts first.1 all ∙ ap (λ o. content_by (parts_tell x ln parts) o v) (sym (later_none (parts_value x fld parts)))
+
+-- what goes in the parts is removed
+pub content_gone : (x : ContextId) (ln : List ContextId) (fld : Field) (parts : List DownPart) → parts_tell x ln parts ≡ Goes → content_of x ln fld parts ≡ Removes
+content_gone x ln fld parts goes = by_content (content_of x ln fld parts) (content_effect x ln fld parts ∙ goes)
+  where
+    by_content : (c : Content Value) → effect_of c ≡ Goes → c ≡ Removes
+    by_content Nothing e = absurd cc
+    by_content (Gives v) e = absurd cc
+    by_content (Begins v) e = absurd cc
+    by_content Removes e = refl
+    by_content Leaves e = absurd cc
 
 -- ---- values don't depend on the order of the kinds
 
@@ -287,20 +287,34 @@ pub value_append : (x : ContextId) (fld : Field) (ds es : List DownPart) → par
 value_append x fld [] es = sym (later_none (parts_value x fld es))
 value_append x fld (d ∷ ds) es = ap (λ o. or_later o (part_value x fld d)) (value_append x fld ds es) ∙ later_joined (parts_value x fld es) (parts_value x fld ds) (part_value x fld d)
 
-pub first_ordered : (ds : List DownPart) → ComeFirst (in_order ds)
-first_ordered ds = (come_with ds [] tt).1
+-- comings have no value of their own
+pub value_singles : (x : ContextId) (fld : Field) (ds : List DownPart) → parts_value x fld (singles ds) ≡ parts_value x fld ds
+value_singles x fld [] = refl
+value_singles x fld (downs.Register g ks ∷ ds) = without ks ∙ value_singles x fld ds ∙ sym (later_none (parts_value x fld ds))
+  where
+    without : (ks : List Known) → parts_value x fld (map (λ (k : Known). downs.Create k) ks ++ singles ds) ≡ parts_value x fld (singles ds)
+    without [] = refl
+    without (k ∷ ks) = later_none (parts_value x fld (map (λ (k : Known). downs.Create k) ks ++ singles ds)) ∙ without ks
+value_singles x fld (downs.Create k ∷ ds) = ap (λ o. or_later o None) (value_singles x fld ds)
+value_singles x fld (downs.Commit y t ∷ ds) = ap (λ o. or_later o (value_for x fld y t)) (value_singles x fld ds)
+value_singles x fld (downs.Discard w ∷ ds) = ap (λ o. or_later o None) (value_singles x fld ds)
+value_singles x fld (d ∷ ds) = ap (λ o. or_later o (part_value x fld d)) (value_singles x fld ds)
 
 -- what is put in order holds what was posted
-pub content_ordered : (x : ContextId) (ln : List ContextId) (fld : Field) (ds : List DownPart) → AllByRecursion (ComesInitially x fld) (come_all ds)
-    → content_of x ln fld (in_order ds) ≡ content_by (parts_tell x ln ds) (parts_value x fld ds) (initial fld)
-content_ordered x ln fld ds all =
-    content_is x ln fld (in_order ds) (first_ordered ds) (subst (AllByRecursion (ComesInitially x fld)) (sym (come_ordered ds)) all)
-    ∙ ap₂ (λ e o. content_by e o (initial fld)) (tell_ordered x ln ds) (value_ordered x fld ds)
+pub content_ordered : (x : ContextId) (ln : List ContextId) (fld : Field) (v : Value) (ds : List DownPart) → AllCome (ComesWith x fld v) ds
+    → content_of x ln fld (singles (in_order ds)) ≡ content_by (parts_tell x ln (singles ds)) (parts_value x fld ds) v
+content_ordered x ln fld v ds all =
+    content_with x ln fld v (singles (in_order ds)) (singles_first ds) (all_come_ordered (ComesWith x fld v) ds all)
+    ∙ ap₂ (λ e o. content_by e o v) (single_tells x ln ds) (value_singles x fld (in_order ds) ∙ value_ordered x fld ds)
+
+-- and removes what goes
+pub removed_ordered : (x : ContextId) (ln : List ContextId) (fld : Field) (ds : List DownPart) → parts_tell x ln (singles ds) ≡ Goes → content_of x ln fld (singles (in_order ds)) ≡ Removes
+removed_ordered x ln fld ds goes = content_gone x ln fld (singles (in_order ds)) (single_tells x ln ds ∙ goes)
 
 pub initially : (fld : Field) → value_in initial_table fld ≡ initial fld
 initially fld = value_in-map initial fld
 
--- ---- what is posted
+-- ---- what is said
 
 abbrev pub value_one : ContextId → Field → Saying → Option Value
 value_one x fld y = value_said x fld (y ∷ [])
@@ -312,92 +326,3 @@ value_said_more x fld (_) ys = refl
 -- what was said of a field in an entry, as a content
 abbrev pub said_content : ContextId → Field → List Making → List Saying → Content Value
 said_content x fld mk ys = content_by (says_do x (line x mk) ys) (value_said x fld ys) (initial fld)
-
-module _ (c : Config) (p : ℕ) (mk : List Making) (l : Lined mk) (old : List Saying) (ft : FactsTies c.tabs mk (asked c.tabs old)) (low : p < 16) (alive : ended p old ≡ None) (fit : AllFit c.tabs old) where
-  value_posted : (ys : List Saying) → Saids c p mk l old ft ys → AllByRecursion (IsOfOthers p) ys → (y : Saying) → SayingFits (asked c.tabs (ys ++ old)) y → (ds : List DownPart)
-      → PostOf (asked c.tabs (ys ++ old)) p y ds → (x : ContextId) (fld : Field) → is_of_its_tabs c p mk x ≡ true → parts_value x fld ds ≡ value_one x fld y
-  value_posted ys s others (Opened z g is_new q) fits ds post x fld mine = absurd fits
-  value_posted ys s others (Subscribed q g) fits ds post x fld mine = absurd fits
-  value_posted ys s others (Made q z a) fits ds post x fld mine = ap (parts_value x fld) post ∙ by_told (is_told (asked c.tabs (ys ++ old)) p a)
-    where
-      by_told : (b : Bool) → parts_value x fld (if b then downs.Create (frame_known (asked c.tabs (ys ++ old)) z a) ∷ [] else []) ≡ None
-      by_told true = refl
-      by_told false = refl
-  value_posted ys s others (BornDead q z a) fits ds post x fld mine = ap (parts_value x fld) post
-  value_posted ys s others (Removed w but) fits ds post x fld mine = ap (parts_value x fld) post ∙ by_told (is_told (asked c.tabs (ys ++ old)) p w)
-    where
-      by_told : (b : Bool) → parts_value x fld (if b then downs.Discard w ∷ [] else []) ≡ None
-      by_told true = refl
-      by_told false = refl
-  value_posted ys s others (Wrote z t) fits ds post x fld mine = by_post post
-    where
-      none_of : (b : Bool) → list_any is_some t ≡ false → None ≡ (if b then new_value t fld else None)
-      none_of true e = sym (unmodified t fld e)
-      none_of false e = refl
-
-      commit_only : IsCommitOf z t ds → parts_value x fld ds ≡ or_later (value_for x fld z t) None
-      commit_only (inl is) = ap (parts_value x fld) is ∙ sym (later_none (value_for x fld z t))
-      commit_only (inr none) = ap (parts_value x fld) none.0 ∙ none_of (same_context x z) none.1 ∙ sym (later_none (value_for x fld z t))
-
-      untold : is_told (asked c.tabs (ys ++ old)) p z ≡ false → None ≡ or_later (value_for x fld z t) None
-      untold e = by_same (same_context x z) refl
-        where
-          by_same : (b : Bool) → same_context x z ≡ b → None ≡ or_later (if b then new_value t fld else None) None
-          by_same false same = refl
-          by_same true same =
-              named_told c p mk l old ft low alive fit ys s others x z ((facts_behind c p mk l old ft ys s).live_known z fits) (ap (λ w. root w mk) (sym (same_context_is x z same))) mine e
-
-      by_post : ((is_told (asked c.tabs (ys ++ old)) p z ≡ true) × IsCommitOf z t ds) ⊎ ((is_told (asked c.tabs (ys ++ old)) p z ≡ false) × (ds ≡ [])) → parts_value x fld ds ≡ or_later (value_for x fld z t) None
-      by_post (inl told) = commit_only told.1
-      by_post (inr other) = ap (parts_value x fld) other.1 ∙ untold other.0
-  value_posted ys s others (Acked q z) fits ds post x fld mine = ap (parts_value x fld) post
-  value_posted ys s others (Counted q) fits ds post x fld mine = ap (parts_value x fld) post
-  value_posted ys s others (Sent q) fits ds post x fld mine = ap (parts_value x fld) post
-  value_posted ys s others (Ended q cause) fits ds post x fld mine = ap (parts_value x fld) post
-
-  pub values_posted : (ys : List Saying) (ds : List DownPart) → Saids c p mk l old ft ys → Posted c p old ys ds → (x : ContextId) (fld : Field) → is_of_its_tabs c p mk x ≡ true
-      → parts_value x fld ds ≡ value_said x fld ys
-  values_posted _ _ s NonePosted x fld mine = refl
-  values_posted _ _ s (OnePosted y ys before more posted other post) x fld mine =
-      let earlier : Saids c p mk l old ft ys = saids_before c p mk l old ft y ys s in
-      value_append x fld before more
-      ∙ ap₂ or_later (value_posted ys earlier (posted_others c p mk l old ft low alive fit ys before posted) y s.fits.0 more post x fld mine) (values_posted ys before earlier posted x fld mine)
-      ∙ sym (value_said_more x fld y ys)
-
-  come_append : (ds es : List DownPart) → (x : ContextId) (fld : Field) → AllByRecursion (ComesInitially x fld) (come_all ds) → AllByRecursion (ComesInitially x fld) (come_all es) → AllByRecursion (ComesInitially x fld) (come_all (ds ++ es))
-  come_append [] es x fld all more = more
-  come_append (downs.Create k ∷ ds) es x fld all more = (all.0, come_append ds es x fld all.1 more)
-  come_append (_ ∷ ds) es x fld all more = come_append ds es x fld all more
-
-  comes_of : (f : Facts) (y : Saying) (ds : List DownPart) → PostOf f p y ds → (x : ContextId) (fld : Field) → AllByRecursion (ComesInitially x fld) (come_all ds)
-  comes_of f (Made q z a) ds post x fld = subst (λ es. AllByRecursion (ComesInitially x fld) (come_all es)) (sym post) (by_told (is_told f p a))
-    where
-      by_told : (b : Bool) → AllByRecursion (ComesInitially x fld) (come_all (if b then downs.Create (frame_known f z a) ∷ [] else []))
-      by_told true = ((λ e. initially fld), tt)
-      by_told false = tt
-  comes_of f (Removed w but) ds post x fld = subst (λ es. AllByRecursion (ComesInitially x fld) (come_all es)) (sym post) (by_told (is_told f p w))
-    where
-      by_told : (b : Bool) → AllByRecursion (ComesInitially x fld) (come_all (if b then downs.Discard w ∷ [] else []))
-      by_told true = tt
-      by_told false = tt
-  comes_of f (Wrote z t) ds post x fld = by_post post
-    where
-      commit_only : IsCommitOf z t ds → AllByRecursion (ComesInitially x fld) (come_all ds)
-      commit_only (inl is) = subst (λ es. AllByRecursion (ComesInitially x fld) (come_all es)) (sym is) tt
-      commit_only (inr none) = subst (λ es. AllByRecursion (ComesInitially x fld) (come_all es)) (sym none.0) tt
-
-      by_post : ((is_told f p z ≡ true) × IsCommitOf z t ds) ⊎ ((is_told f p z ≡ false) × (ds ≡ [])) → AllByRecursion (ComesInitially x fld) (come_all ds)
-      by_post (inl told) = commit_only told.1
-      by_post (inr other) = subst (λ es. AllByRecursion (ComesInitially x fld) (come_all es)) (sym other.1) tt
-  comes_of f (_) ds post x fld = subst (λ es. AllByRecursion (ComesInitially x fld) (come_all es)) (sym post) tt
-
-  pub comes_posted : (ys : List Saying) (ds : List DownPart) → Posted c p old ys ds → (x : ContextId) (fld : Field) → AllByRecursion (ComesInitially x fld) (come_all ds)
-  comes_posted _ _ NonePosted x fld = tt
-  comes_posted _ _ (OnePosted y ys before more posted other post) x fld = come_append before more x fld (comes_posted ys before posted x fld) (comes_of (asked c.tabs (ys ++ old)) y more post x fld)
-
-  -- what is sent of an entry holds what was said in it
-  pub posted_content : (ys : List Saying) (ds : List DownPart) → Saids c p mk l old ft ys → Posted c p old ys ds → (x : ContextId) (fld : Field) → is_of_its_tabs c p mk x ≡ true
-      → content_of x (line x mk) fld (in_order ds) ≡ said_content x fld mk ys
-  posted_content ys ds s posted x fld mine =
-      content_ordered x (line x mk) fld ds (comes_posted ys ds posted x fld)
-      ∙ ap₂ (λ e o. content_by e o (initial fld)) (effects_posted c p mk l old ft low alive fit ys ds s posted x mine) (values_posted ys ds s posted x fld mine)

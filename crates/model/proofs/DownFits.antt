@@ -1,6 +1,6 @@
 -- A bundle of the parent that the process can take: what comes in it is of others, each below one that isn't brought
 -- later, and all of it stands before what goes.
-use Rattle.std.proofs.Common.{◌≡◌, ℕ, ◌+◌, ◌≤◌, ◌==◌, true, false, List, [], ◌∷◌}
+use Rattle.std.proofs.Common.{◌≡◌, ℕ, ◌+◌, ◌≤◌, ◌==◌, false, List, [], ◌∷◌}
 use Rattle.std.specs.List.{AllByRecursion}
 use Rattle.fission_ids.specs.Ids.{same_context}
 use Rattle.wire_msgs.specs.declared.config.Config.{Config}
@@ -9,16 +9,14 @@ use Rattle.wire_msgs.specs.declared.part.DownPart.TheVariants as downs
 use Rattle.wire_msgs.specs.declared.part.Known.{Known}
 use Rattle.protocol.specs.Questions.{option_any}
 use Rattle.model.specs.Lines.{Making}
-use Rattle.model.specs.Trees.{is_of_its_tabs}
+use Rattle.model.specs.View.{singles}
 use Rattle.model.proofs.Arranging.{come_all, ComeFirst}
 use Rattle.model.proofs.Holding.{KnownFits}
 
--- what is told of is of another process, in a tree that this one has
+-- what is told of is of another process, or of the parent
 pub record ComingFits (c : Config) (p : ℕ) (mk : List Making) (k : Known) : Type 0 where
   pub known : KnownFits c.tabs mk k
-  pub mine : is_of_its_tabs c p mk k.context ≡ true
   pub others : (k.context.creator == p + 1) ≡ false
-  pub unowned : k.owned ≡ false
 
 -- a later one is another, and isn't the context above
 pub record IsApart (k later : Known) : Type 0 where
@@ -34,11 +32,12 @@ abbrev pub PartFits : ℕ → ℕ → DownPart → Type 0
 PartFits p made (downs.Create k) = Unit {0}
 PartFits p made (downs.Commit x t) = Unit {0}
 PartFits p made (downs.Discard w) = w.creator ≡ p + 1 → w.serial ≤ made
+PartFits p made (downs.Register g ks) = Unit {0}
 PartFits p made downs.Kill = Unit {0}
 PartFits p made part = ⊥
 
 pub record DownFits (c : Config) (p : ℕ) (mk : List Making) (made : ℕ) (parts : List DownPart) : Type 0 where
-  pub first : ComeFirst parts
-  pub come : AllByRecursion (ComingFits c p mk) (come_all parts)
-  pub apart : ComeApart (come_all parts)
+  pub first : ComeFirst (singles parts)
+  pub come : AllByRecursion (ComingFits c p mk) (come_all (singles parts))
+  pub apart : ComeApart (come_all (singles parts))
   pub kinds : AllByRecursion (PartFits p made) parts

@@ -29,14 +29,18 @@ use Rattle.trees.proofs.Lists.{all_push}
 use Rattle.model.specs.Lines.{Making, makings_said}
 use Rattle.model.specs.Moments.{Moment, Written, ProcessEvent, said, did_by, events_of, facts_now, seen_now, deed, own_known as own_frame, told, heard, written, is_done}
 use Rattle.model.specs.Moments.Written.{Own, Raw, Said}
+use Rattle.model.specs.Parent.{ended}
 use Rattle.model.specs.Process.{own_asked, frames_made}
 use Rattle.model.proofs.Cases.{by_if}
 use Rattle.model.proofs.DownFits.{DownFits}
-use Rattle.model.proofs.DownsSent.{all_more, still_fits, posted_fits, one_part, back_fits, bundle_parts}
+use Rattle.model.proofs.DownsSent.{all_more, still_fits, one_part, back_fits, bundle_parts}
 use Rattle.model.proofs.Entry.{Entry, Hearing}
 use Rattle.model.proofs.Entry.Entry.{Idle, Sets, Frames, Drops, TakesOne, Tells, Killing, HearsOne}
 use Rattle.model.proofs.Entry.Hearing.{AsMade, AsLate, AsDrop, AsOldDrop, AsAcks, AsCommit, AsOldCommit, AsOver}
 use Rattle.model.proofs.Fitting.{AllFit, FactsTies}
+use Rattle.model.proofs.OwnTold.{OwnTold}
+use Rattle.model.proofs.Preorder.{Preorder}
+use Rattle.model.proofs.RegisterFits.{posted_fits}
 use Rattle.model.proofs.Lining.{Lined, IsToldBy}
 
 -- ---- what waits
@@ -90,7 +94,9 @@ heard_some k w (answers.Parts ns) says d done = refl
 heard_some k w (_) says d done = absurd cc
 
 module _ (c : Config) (p : ℕ) (mk : List Making) (ms : List Moment) (m : Moment) (l : Lined mk) (low : p < 16) (ft : FactsTies c.tabs mk (facts_now c ms)) (fit : AllFit c.tabs (said ms)) (told_by : AllByRecursion (IsToldBy mk) (makings_said m.says))
-    (flows : Flows (events_of p ms)) (own_known : OwnKnown c p ms) (own_made : OwnMade c p ms) (all : AllDownFit c p mk ms)
+    (flows : Flows (events_of p ms)) (order : Preorder mk (facts_now c ms).contexts.order (facts_now c ms).contexts.live)
+    (own_told : ended p (said ms) ≡ None → OwnTold c p mk (said ms))
+    (own_known : OwnKnown c p ms) (own_made : OwnMade c p ms) (all : AllDownFit c p mk ms)
   where
     abbrev Fits : Bundle DownBundle → Type 0
     Fits d = DownFits c p mk (seen_now c p (m ∷ ms)).frames_made d.content.parts
@@ -144,7 +150,8 @@ module _ (c : Config) (p : ℕ) (mk : List Making) (ms : List Moment) (m : Momen
     hears_fit b rest first (AsLate x a d e) =
         by_events (Reverts (length ms + 1) (Own b) d ∷ []) e.events
         (pushed (record { entry = length ms + 1; epoch = hears (events_of p ms) + 1; content = d })
-        (subst (DownFits c p mk (seen_now c p (m ∷ ms)).frames_made) (sym e.back) (one_part c p mk (seen_now c p (m ∷ ms)).frames_made (downs.Discard x) refl (λ own. late_serial b rest x a first e.parts))))
+        (subst (DownFits c p mk (seen_now c p (m ∷ ms)).frames_made) (sym e.back)
+        (one_part c p mk (seen_now c p (m ∷ ms)).frames_made (downs.Discard x) tt refl (λ own. late_serial b rest x a first e.parts))))
     hears_fit b rest first (AsDrop x e) = by_events (Accepts (length ms + 1) (Own b) ∷ []) e.events raised
     hears_fit b rest first (AsOldDrop x e) = by_events (Ignores (length ms + 1) (Own b) ∷ []) e.events raised
     hears_fit b rest first (AsAcks e) = by_events (Accepts (length ms + 1) (Own b) ∷ []) e.events raised
@@ -168,11 +175,11 @@ module _ (c : Config) (p : ℕ) (mk : List Making) (ms : List Moment) (m : Momen
         by_events (told (length ms + 1) m.says (bundle_for (facts_now c (m ∷ ms)) p (in_order posts)) ∷ []) e.events
         (tells_fit m.says (bundle_for (facts_now c (m ∷ ms)) p (in_order posts)) (λ d is. bundle_parts (DownFits c p mk (seen_now c p (m ∷ ms)).frames_made) (facts_now c (m ∷ ms)) p (in_order posts) d is
         (still_fits c p mk (seen_now c p ms).frames_made (seen_now c p (m ∷ ms)).frames_made grows (in_order posts)
-        (posted_fits c p mk l (said ms) ft low fit (seen_now c p ms).frames_made own_known m.says posts (record { told = told_by; fits = e.fits }) e.posted))))
+        (posted_fits c p mk l (said ms) ft low fit order own_told (seen_now c p ms).frames_made own_known m.says posts (record { told = told_by; fits = e.fits }) e.joins e.posted))))
     downs_still (Killing d e) =
         by_events (Ends ∷ Sends (length ms + 1) (Said m.says) d ∷ []) e.events
         (pushed (record { entry = length ms + 1; epoch = hears (events_of p ms); content = d })
-        (subst (DownFits c p mk (seen_now c p (m ∷ ms)).frames_made) (sym e.kill) (one_part c p mk (seen_now c p (m ∷ ms)).frames_made downs.Kill refl tt)))
+        (subst (DownFits c p mk (seen_now c p (m ∷ ms)).frames_made) (sym e.kill) (one_part c p mk (seen_now c p (m ∷ ms)).frames_made downs.Kill tt refl tt)))
     downs_still (HearsOne b rest first hearing) = hears_fit b rest first hearing
 
 -- at the start nothing waits

@@ -3,7 +3,9 @@ use Rattle.std.proofs.Common.{◌≡◌, ◌⊎◌, ℕ, ◌+◌, ◌==◌, Bool
 use Rattle.std.specs.Prelude.{is_some}
 use Rattle.std.specs.List.{AllByRecursion, list_any}
 use Rattle.fission_ids.specs.declared.context.ContextId.{ContextId}
+use Rattle.fission_ids.specs.declared.group.GroupId.{GroupId}
 use Rattle.field_table.specs.declared.field.Field.{Field}
+use Rattle.field_table.specs.Table.{initial_table}
 use Rattle.transaction.specs.Transaction.{Changes}
 use Rattle.wire_msgs.specs.declared.answer.Answer.TheVariants.{Ended as EndedBy}
 use Rattle.wire_msgs.specs.declared.bundle.DownBundle.{DownBundle}
@@ -14,6 +16,7 @@ use Rattle.wire_msgs.specs.declared.note.FieldNote.{FieldNote}
 use Rattle.wire_msgs.specs.declared.config.Config.{Config}
 use Rattle.wire_msgs.specs.declared.part.DownPart.{DownPart}
 use Rattle.wire_msgs.specs.declared.part.DownPart.TheVariants as downs
+use Rattle.wire_msgs.specs.declared.part.Known.{Known}
 use Rattle.wire_msgs.specs.declared.part.UpPart.{UpPart}
 use Rattle.wire_msgs.specs.declared.part.UpPart.TheVariants as ups
 use Rattle.protocol.specs.Bundle.{bundle_for}
@@ -22,9 +25,10 @@ use Rattle.protocol.specs.Commits.{applied, sent_back}
 use Rattle.protocol.specs.Hear.{field_notes, frame_known, is_late}
 use Rattle.protocol.specs.Order.{in_order}
 use Rattle.protocol.specs.OwnActs.{denied_to_process, next_frame}
-use Rattle.protocol.specs.Questions.{Facts, option_any, is_told, is_judged}
+use Rattle.protocol.specs.Questions.{Facts, option_any, is_subscribed, is_told, is_judged}
 use Rattle.protocol.specs.Sayings.{Saying}
-use Rattle.protocol.specs.Sayings.Saying.{Made, BornDead, Removed, Wrote as SaysWrote, Acked, Counted, Sent, Ended}
+use Rattle.protocol.specs.ParentActs.{register_of}
+use Rattle.protocol.specs.Sayings.Saying.{Opened, Made, BornDead, Removed, Wrote as SaysWrote, Acked, Subscribed, Counted, Sent, Ended}
 use Rattle.protocol.specs.Seen.{Seen}
 use Rattle.protocol.specs.Seen.Doing.{Framed, Went, Wrote, Took}
 use Rattle.protocol.specs.Take.{take_rules, bundle_sent, is_kill}
@@ -54,8 +58,15 @@ pub record IsSent (s : Seen) (epoch : ℕ) (part : UpPart) (b : UpBundle) : Type
 abbrev pub IsCommitOf : ContextId → Changes → List DownPart → Type 0
 IsCommitOf x t ds = (ds ≡ downs.Commit x t ∷ []) ⊎ ((ds ≡ []) × (list_any is_some t ≡ false))
 
+-- a tab's context, as process p is told of it when process q comes to own it
+abbrev pub tab_known : ℕ → ContextId → GroupId → ℕ → Known
+tab_known p x g q = record { context = x; group = g; parent = None; owned = q == p; fields = initial_table }
+
 -- what process p is sent of a saying, by the answers before it
 abbrev pub PostOf : Facts → ℕ → Saying → List DownPart → Type 0
+PostOf f p (Opened x g is_new q) ds =
+    ds ≡ (if is_subscribed f p g then downs.Create (tab_known p x g q) ∷ [] else [])
+PostOf f p (Subscribed q g) ds = ds ≡ (if q == p then register_of f p g ∷ [] else [])
 PostOf f p (Made q x a) ds = ds ≡ (if is_told f p a then downs.Create (frame_known f x a) ∷ [] else [])
 PostOf f p (Removed w but) ds = ds ≡ (if is_told f p w then downs.Discard w ∷ [] else [])
 PostOf f p (SaysWrote x t) ds =
@@ -76,6 +87,11 @@ pub data Posted (c : Config) (p : ℕ) (old : List Saying) : List Saying → Lis
   OnePosted : (y : Saying) (ys : List Saying) (before ds : List DownPart) → Posted c p old ys before → IsOfOthers p y
       → PostOf (asked c.tabs (ys ++ old)) p y ds → Posted c p old (y ∷ ys) (before ++ ds)
 
+-- what is posted is of others
+pub others_posted : (c : Config) (p : ℕ) (old ys : List Saying) (ds : List DownPart) → Posted c p old ys ds → AllByRecursion (IsOfOthers p) ys
+others_posted c p old _ _ NonePosted = tt
+others_posted c p old _ _ (OnePosted y ys before ds posted other post) = (other, others_posted c p old ys before posted)
+
 abbrev pub IsSending : Saying → Type 0
 IsSending (Sent q) = Unit {0}
 IsSending y = ⊥
@@ -89,6 +105,26 @@ abbrev pub IsAcking : Saying → Type 0
 IsAcking (Acked q x) = Unit {0}
 IsAcking (Sent q) = Unit {0}
 IsAcking y = ⊥
+
+-- ---- subscriptions
+
+-- a saying that subscribes nobody
+abbrev pub IsNoJoin : Saying → Type 0
+IsNoJoin (Subscribed q g) = ⊥
+IsNoJoin y = Unit {0}
+
+-- a saying that opens a tab in a group
+abbrev pub IsOpeningIn : GroupId → Saying → Type 0
+IsOpeningIn g (Opened x h is_new q) = h ≡ g
+IsOpeningIn g y = ⊥
+
+-- before a subscription nothing is said but that tabs were opened in the group, and behind it but that bundles were
+-- sent
+abbrev pub JoinsLast : List Saying → Type 0
+JoinsLast [] = Unit {0}
+JoinsLast (Sent q ∷ ys) = JoinsLast ys
+JoinsLast (Subscribed q g ∷ ys) = AllByRecursion (IsOpeningIn g) ys
+JoinsLast (y ∷ ys) = AllByRecursion IsNoJoin ys
 
 -- ---- what the process does
 
@@ -156,6 +192,7 @@ module _ (c : Config) (p : ℕ) (ms : List Moment) (m : Moment) where
   pub record IsTold (posts : List DownPart) : Type 0 where
     pub did : m.did p ≡ []
     pub fits : FitsOver c (said ms) m.says
+    pub joins : JoinsLast m.says
     pub posted : Posted c p (said ms) m.says posts
     pub events : m.events p ≡ told (length ms + 1) m.says (bundle_for (facts_now c (m ∷ ms)) p (in_order posts)) ∷ []
 

@@ -15,10 +15,10 @@ use Rattle.traces.specs.Event.Event.{Writes, Sends, Takes, Reverts, Does, Ends}
 use Rattle.traces.specs.Field.{Content, Trace, bundle_for, reverted_for}
 use Rattle.traces.specs.Field.Content.{Nothing, Gives, Begins, Removes, Leaves}
 use Rattle.traces.specs.Laws.{Apart, Projected}
-use Rattle.traces.specs.Links.{writes, bundles_sent, bundles_waiting, takes, now, is_ended}
+use Rattle.traces.specs.Links.{writes, bundles_sent, bundles_waiting, now, is_ended}
 use Rattle.traces.specs.Rules.{Flows, Rises, Fits, NoNews, Untouched, Stays}
 use Rattle.traces.specs.Words.{Stage, last_leaving}
-use Rattle.traces.specs.Words.Stage.{Coming, Held, Gone}
+use Rattle.traces.specs.Words.Stage.{Coming, Gone}
 use Rattle.traces.specs.Words as words
 use Rattle.traces.proofs.Projection.{projection}
 use Rattle.trees.specs.Look.{Effect}
@@ -27,7 +27,7 @@ use Rattle.trees.specs.Words.{stage, Stands}
 use Rattle.model.specs.Lines.{Making, makings_said, makings_done, line}
 use Rattle.model.specs.Moments.{Moment, Written, ProcessEvent, said, events_of, facts_now, seen_now}
 use Rattle.model.specs.Trees.{tree_look, tree_begin}
-use Rattle.model.specs.View.{content_of, value_written, begin}
+use Rattle.model.specs.View.{content_of, singles, value_written, begin}
 use Rattle.model.specs.View as view
 use Rattle.model.proofs.Contents.{content_stays, leaving_stays}
 use Rattle.model.proofs.Entry.{HeardCommit}
@@ -69,7 +69,7 @@ pub record IsUnsaid {V : Type 0} (h : Trace V) : Type 0 where
   pub untouched : Untouched h
   pub no_news : NoNews (bundles_sent h)
 
--- what holds of a field of a context in the trees of the process
+-- what holds of a field of a context
 pub record FieldTies (c : Config) (p : ℕ) (mk : List Making) (x : ContextId) (fld : Field) (ms : List Moment) : Type 0 where
   pub apart : Apart (view.look x fld mk) (events_of p ms)
   pub now_is : now (events_of p ms) ≤ length ms
@@ -82,24 +82,24 @@ pub record FieldTies (c : Config) (p : ℕ) (mk : List Making) (x : ContextId) (
 
 -- ---- what doesn't depend on the end
 
-own_stage : (c : Config) (p : ℕ) (mk : List Making) (x : ContextId) (e : ProcessEvent) (g h : List ProcessEvent) → stage (tree_look c p mk) (tree_begin c p) x g ≡ stage (tree_look c p mk) (tree_begin c p) x h
-    → stage (tree_look c p mk) (tree_begin c p) x (own_only e g) ≡ stage (tree_look c p mk) (tree_begin c p) x (e ∷ h)
+own_stage : (c : Config) (p : ℕ) (mk : List Making) (x : ContextId) (e : ProcessEvent) (g h : List ProcessEvent) → stage (tree_look c p mk) (tree_begin c p mk) x g ≡ stage (tree_look c p mk) (tree_begin c p mk) x h
+    → stage (tree_look c p mk) (tree_begin c p mk) x (own_only e g) ≡ stage (tree_look c p mk) (tree_begin c p mk) x (e ∷ h)
 own_stage c p mk x (Writes w) g h e = ap (Rattle.trees.specs.Look.moved ((tree_look c p mk).does x w)) e
 own_stage c p mk x (Takes d) g h e = ap (Rattle.trees.specs.Look.moved ((tree_look c p mk).tells x d.content)) e
 own_stage c p mk x (_) g h e = e
 
-but_stage : (c : Config) (p : ℕ) (mk : List Making) (x : ContextId) (e : ProcessEvent) (g h : List ProcessEvent) → stage (tree_look c p mk) (tree_begin c p) x g ≡ stage (tree_look c p mk) (tree_begin c p) x h
-    → stage (tree_look c p mk) (tree_begin c p) x (all_but_end e g) ≡ stage (tree_look c p mk) (tree_begin c p) x (e ∷ h)
+but_stage : (c : Config) (p : ℕ) (mk : List Making) (x : ContextId) (e : ProcessEvent) (g h : List ProcessEvent) → stage (tree_look c p mk) (tree_begin c p mk) x g ≡ stage (tree_look c p mk) (tree_begin c p mk) x h
+    → stage (tree_look c p mk) (tree_begin c p mk) x (all_but_end e g) ≡ stage (tree_look c p mk) (tree_begin c p mk) x (e ∷ h)
 but_stage c p mk x (Writes w) g h e = ap (Rattle.trees.specs.Look.moved ((tree_look c p mk).does x w)) e
 but_stage c p mk x (Takes d) g h e = ap (Rattle.trees.specs.Look.moved ((tree_look c p mk).tells x d.content)) e
 but_stage c p mk x (_) g h e = e
 
-pub stage_until : (c : Config) (p : ℕ) (mk : List Making) (x : ContextId) (h : List ProcessEvent) → stage (tree_look c p mk) (tree_begin c p) x (until_end h) ≡ stage (tree_look c p mk) (tree_begin c p) x h
+pub stage_until : (c : Config) (p : ℕ) (mk : List Making) (x : ContextId) (h : List ProcessEvent) → stage (tree_look c p mk) (tree_begin c p mk) x (until_end h) ≡ stage (tree_look c p mk) (tree_begin c p mk) x h
 stage_until c p mk x [] = refl
 stage_until c p mk x (e ∷ h) = by_end (is_ended h) (stage_until c p mk x h)
   where
-    by_end : (b : Bool) → stage (tree_look c p mk) (tree_begin c p) x (until_end h) ≡ stage (tree_look c p mk) (tree_begin c p) x h
-        → stage (tree_look c p mk) (tree_begin c p) x (if b then own_only e (until_end h) else all_but_end e (until_end h)) ≡ stage (tree_look c p mk) (tree_begin c p) x (e ∷ h)
+    by_end : (b : Bool) → stage (tree_look c p mk) (tree_begin c p mk) x (until_end h) ≡ stage (tree_look c p mk) (tree_begin c p mk) x h
+        → stage (tree_look c p mk) (tree_begin c p mk) x (if b then own_only e (until_end h) else all_but_end e (until_end h)) ≡ stage (tree_look c p mk) (tree_begin c p mk) x (e ∷ h)
     by_end true rest = own_stage c p mk x e (until_end h) h rest
     by_end false rest = but_stage c p mk x e (until_end h) h rest
 
@@ -129,14 +129,15 @@ leaving_back k (Some v) Leaves h = refl
 pub never_leaves : (c : Config) (p : ℕ) (mk : List Making) (x : ContextId) (fld : Field) (h : List ProcessEvent) → last_leaving (trace_of c p mk x fld h) ≡ 0
 never_leaves c p mk x fld [] = refl
 never_leaves c p mk x fld (Takes d ∷ h) =
-    leaving_stays (content_of x (line x mk) fld d.content.parts) (Rattle.traces.specs.Links.last_write (trace_of c p mk x fld h)) (last_leaving (trace_of c p mk x fld h)) (content_stays x (line x mk) fld d.content.parts)
+    leaving_stays (content_of x (line x mk) fld (singles d.content.parts)) (Rattle.traces.specs.Links.last_write (trace_of c p mk x fld h)) (last_leaving (trace_of c p mk x fld h))
+    (content_stays x (line x mk) fld (singles d.content.parts))
     ∙ never_leaves c p mk x fld h
-never_leaves c p mk x fld (Reverts k w d ∷ h) = leaving_back k (value_written x fld w) (content_of x (line x mk) fld d.parts) (trace_of c p mk x fld h) ∙ never_leaves c p mk x fld h
+never_leaves c p mk x fld (Reverts k w d ∷ h) = leaving_back k (value_written x fld w) (content_of x (line x mk) fld (singles d.parts)) (trace_of c p mk x fld h) ∙ never_leaves c p mk x fld h
 never_leaves c p mk x fld (_ ∷ h) = never_leaves c p mk x fld h
 
-pub all_stay : (x : ContextId) (ln : List ContextId) (fld : Field) (ds : List (Bundle DownBundle)) → Stays (map (bundle_for (λ (d : DownBundle). content_of x ln fld d.parts)) ds)
+pub all_stay : (x : ContextId) (ln : List ContextId) (fld : Field) (ds : List (Bundle DownBundle)) → Stays (map (bundle_for (λ (d : DownBundle). content_of x ln fld (singles d.parts))) ds)
 all_stay x ln fld [] = tt
-all_stay x ln fld (d ∷ ds) = (content_stays x ln fld d.content.parts, all_stay x ln fld ds)
+all_stay x ln fld (d ∷ ds) = (content_stays x ln fld (singles d.content.parts), all_stay x ln fld ds)
 
 pub news_drop : {V : Type 0} (n : ℕ) (ds : List (Bundle (Content V))) → NoNews ds → NoNews (drop n ds)
 news_drop zero ds none = none

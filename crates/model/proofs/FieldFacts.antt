@@ -32,13 +32,14 @@ use Rattle.traces.specs.Words.{or_else}
 use Rattle.model.specs.Lines.{Making}
 use Rattle.model.specs.Moments.{Moment, Written, said, facts_now, heard, is_done}
 use Rattle.model.specs.Parent.{asked, known, live, under, value}
-use Rattle.model.specs.View.{value_for, value_said, given, content_of}
+use Rattle.model.specs.View.{value_for, value_said, given, singles, content_of}
 use Rattle.model.proofs.Cases.{true_false, same_context_is}
 use Rattle.model.proofs.Entry.{FitsOver, IsSending, IsAcking, Says, Hearing, Entry}
 use Rattle.model.proofs.Entry.Entry.{Idle, Sets, Frames, Drops, TakesOne, Tells, Killing, HearsOne}
 use Rattle.model.proofs.Entry.Hearing.{AsMade, AsLate, AsDrop, AsOldDrop, AsAcks, AsCommit, AsOldCommit, AsOver}
 use Rattle.model.proofs.Fitting.{FactsTies}
 use Rattle.model.proofs.Lining.{Lined}
+use Rattle.model.proofs.Living.{opened_new}
 use Rattle.model.proofs.Owning.{known_all}
 use Rattle.model.proofs.Telling.{Saids, saids_before, facts_behind}
 
@@ -97,36 +98,40 @@ pub else_later : (a b : Option Value) (v : Value) → or_else (or_later a b) v �
 else_later None b v = refl
 else_later (Some w) b v = refl
 
-module _ (c : Config) (p : ℕ) (mk : List Making) (l : Lined mk) (old : List Saying) (ft : FactsTies c.tabs mk (asked c.tabs old)) where
+module _ (c : Config) (mk : List Making) (l : Lined mk) (old : List Saying) (ft : FactsTies c.tabs mk (asked c.tabs old)) where
   -- of what isn't known nothing is said
-  pub unsaid : (x : ContextId) (fld : Field) (ys : List Saying) → Saids c p mk l old ft ys → known c.tabs x (ys ++ old) ≡ false → value_said x fld ys ≡ None
+  pub unsaid : (x : ContextId) (fld : Field) (ys : List Saying) → Saids c mk l old ft ys → known c.tabs x (ys ++ old) ≡ false → value_said x fld ys ≡ None
   unfolding known
   unsaid x fld [] s new = refl
-  unsaid x fld (Opened y g is_new q ∷ ys) s new = absurd s.fits.0
-  unsaid x fld (Subscribed q g ∷ ys) s new = absurd s.fits.0
-  unsaid x fld (Made q y a ∷ ys) s new = unsaid x fld ys (saids_before c p mk l old ft (Made q y a) ys s) (new_before (same_context x y) new)
+  unsaid x fld (Opened y g is_new q ∷ ys) s new = unsaid x fld ys (saids_before c mk l old ft (Opened y g is_new q) ys s) (new_before (same_context x y) new)
     where
       new_before : (b : Bool) → (if b then true else known c.tabs x (ys ++ old)) ≡ false → known c.tabs x (ys ++ old) ≡ false
       new_before true e = absurd cc
       new_before false e = e
-  unsaid x fld (BornDead q y a ∷ ys) s new = unsaid x fld ys (saids_before c p mk l old ft (BornDead q y a) ys s) (new_before (same_context x y) new)
+  unsaid x fld (Subscribed q g ∷ ys) s new = unsaid x fld ys (saids_before c mk l old ft (Subscribed q g) ys s) new
+  unsaid x fld (Made q y a ∷ ys) s new = unsaid x fld ys (saids_before c mk l old ft (Made q y a) ys s) (new_before (same_context x y) new)
+    where
+      new_before : (b : Bool) → (if b then true else known c.tabs x (ys ++ old)) ≡ false → known c.tabs x (ys ++ old) ≡ false
+      new_before true e = absurd cc
+      new_before false e = e
+  unsaid x fld (BornDead q y a ∷ ys) s new = unsaid x fld ys (saids_before c mk l old ft (BornDead q y a) ys s) (new_before (same_context x y) new)
     where
       new_before : (b : Bool) → (if b then true else known c.tabs x (ys ++ old)) ≡ false → known c.tabs x (ys ++ old) ≡ false
       new_before true e = absurd cc
       new_before false e = e
   unsaid x fld (Wrote y t ∷ ys) s new = by_same (same_context x y) refl (unsaid x fld ys earlier new)
     where
-      earlier : Saids c p mk l old ft ys
-      earlier = saids_before c p mk l old ft (Wrote y t) ys s
+      earlier : Saids c mk l old ft ys
+      earlier = saids_before c mk l old ft (Wrote y t) ys s
 
       by_same : (b : Bool) → same_context x y ≡ b → value_said x fld ys ≡ None → or_later (if b then new_value t fld else None) (value_said x fld ys) ≡ None
       by_same false e rest = rest
-      by_same true e rest = true_false (known c.tabs x (ys ++ old)) (ap (λ z. known c.tabs z (ys ++ old)) (same_context_is x y e) ∙ (facts_behind c p mk l old ft ys earlier).live_known y s.fits.0) new
-  unsaid x fld (Removed w but ∷ ys) s new = unsaid x fld ys (saids_before c p mk l old ft (Removed w but) ys s) new
-  unsaid x fld (Acked q y ∷ ys) s new = unsaid x fld ys (saids_before c p mk l old ft (Acked q y) ys s) new
-  unsaid x fld (Counted q ∷ ys) s new = unsaid x fld ys (saids_before c p mk l old ft (Counted q) ys s) new
-  unsaid x fld (Sent q ∷ ys) s new = unsaid x fld ys (saids_before c p mk l old ft (Sent q) ys s) new
-  unsaid x fld (Ended q cause ∷ ys) s new = unsaid x fld ys (saids_before c p mk l old ft (Ended q cause) ys s) new
+      by_same true e rest = true_false (known c.tabs x (ys ++ old)) (ap (λ z. known c.tabs z (ys ++ old)) (same_context_is x y e) ∙ (facts_behind c mk l old ft ys earlier).live_known y s.fits.0) new
+  unsaid x fld (Removed w but ∷ ys) s new = unsaid x fld ys (saids_before c mk l old ft (Removed w but) ys s) new
+  unsaid x fld (Acked q y ∷ ys) s new = unsaid x fld ys (saids_before c mk l old ft (Acked q y) ys s) new
+  unsaid x fld (Counted q ∷ ys) s new = unsaid x fld ys (saids_before c mk l old ft (Counted q) ys s) new
+  unsaid x fld (Sent q ∷ ys) s new = unsaid x fld ys (saids_before c mk l old ft (Sent q) ys s) new
+  unsaid x fld (Ended q cause ∷ ys) s new = unsaid x fld ys (saids_before c mk l old ft (Ended q cause) ys s) new
 
   module _ (x : ContextId) (fld : Field) (base : Value) (was : live c.tabs x old ≡ true → value c.tabs x fld old ≡ Some base) (new_is : known c.tabs x old ≡ false → base ≡ initial fld) where
     unknown_before : (ys : List Saying) → known c.tabs x (ys ++ old) ≡ false → known c.tabs x old ≡ false
@@ -137,15 +142,26 @@ module _ (c : Config) (p : ℕ) (mk : List Making) (l : Lined mk) (old : List Sa
         by_known true e = true_false (known c.tabs x (ys ++ old)) (known_all c old ys x e) new
 
     -- what was said last, or the value before, or the initial one of what is new
-    pub value_behind : (ys : List Saying) → Saids c p mk l old ft ys → live c.tabs x (ys ++ old) ≡ true → value c.tabs x fld (ys ++ old) ≡ Some (or_else (value_said x fld ys) base)
+    pub value_behind : (ys : List Saying) → Saids c mk l old ft ys → live c.tabs x (ys ++ old) ≡ true → value c.tabs x fld (ys ++ old) ≡ Some (or_else (value_said x fld ys) base)
     unfolding live value
     value_behind [] s e = was e
-    value_behind (Opened y g is_new q ∷ ys) s e = absurd s.fits.0
-    value_behind (Subscribed q g ∷ ys) s e = absurd s.fits.0
+    value_behind (Opened y g is_new q ∷ ys) s e = by_same (same_context x y) refl e (value_behind ys earlier)
+      where
+        earlier : Saids c mk l old ft ys
+        earlier = saids_before c mk l old ft (Opened y g is_new q) ys s
+
+        by_same : (b : Bool) → same_context x y ≡ b → (if b then true else live c.tabs x (ys ++ old)) ≡ true → (live c.tabs x (ys ++ old) ≡ true → value c.tabs x fld (ys ++ old) ≡ Some (or_else (value_said x fld ys) base))
+            → (if b then Some (initial fld) else value c.tabs x fld (ys ++ old)) ≡ Some (or_else (value_said x fld ys) base)
+        by_same false is e rest = rest e
+        by_same true is e rest =
+            let new : known c.tabs x (ys ++ old) ≡ false =
+            ap (λ z. known c.tabs z (ys ++ old)) (same_context_is x y is) ∙ opened_new c.tabs mk (asked c.tabs (ys ++ old)) y q (facts_behind c mk l old ft ys earlier) s.fits.0 in
+            ap Some (sym (ap₂ or_else (unsaid x fld ys earlier new) (new_is (unknown_before ys new))))
+    value_behind (Subscribed q g ∷ ys) s e = value_behind ys (saids_before c mk l old ft (Subscribed q g) ys s) e
     value_behind (Made q y a ∷ ys) s e = by_same (same_context x y) refl e (value_behind ys earlier)
       where
-        earlier : Saids c p mk l old ft ys
-        earlier = saids_before c p mk l old ft (Made q y a) ys s
+        earlier : Saids c mk l old ft ys
+        earlier = saids_before c mk l old ft (Made q y a) ys s
 
         by_same : (b : Bool) → same_context x y ≡ b → (if b then true else live c.tabs x (ys ++ old)) ≡ true → (live c.tabs x (ys ++ old) ≡ true → value c.tabs x fld (ys ++ old) ≡ Some (or_else (value_said x fld ys) base))
             → (if b then Some (initial fld) else value c.tabs x fld (ys ++ old)) ≡ Some (or_else (value_said x fld ys) base)
@@ -153,23 +169,23 @@ module _ (c : Config) (p : ℕ) (mk : List Making) (l : Lined mk) (old : List Sa
         by_same true is e rest =
             let new : known c.tabs x (ys ++ old) ≡ false = ap (λ z. known c.tabs z (ys ++ old)) (same_context_is x y is) ∙ s.fits.0.new in
             ap Some (sym (ap₂ or_else (unsaid x fld ys earlier new) (new_is (unknown_before ys new))))
-    value_behind (BornDead q y a ∷ ys) s e = value_behind ys (saids_before c p mk l old ft (BornDead q y a) ys s) e
-    value_behind (Removed w but ∷ ys) s e = by_under (under c.tabs x w (ys ++ old)) e (value_behind ys (saids_before c p mk l old ft (Removed w but) ys s))
+    value_behind (BornDead q y a ∷ ys) s e = value_behind ys (saids_before c mk l old ft (BornDead q y a) ys s) e
+    value_behind (Removed w but ∷ ys) s e = by_under (under c.tabs x w (ys ++ old)) e (value_behind ys (saids_before c mk l old ft (Removed w but) ys s))
       where
         by_under : (b : Bool) → (if b then false else live c.tabs x (ys ++ old)) ≡ true → (live c.tabs x (ys ++ old) ≡ true → value c.tabs x fld (ys ++ old) ≡ Some (or_else (value_said x fld ys) base))
             → (if b then None else value c.tabs x fld (ys ++ old)) ≡ Some (or_else (value_said x fld ys) base)
         by_under true e rest = absurd cc
         by_under false e rest = rest e
-    value_behind (Wrote y t ∷ ys) s e = by_same (same_context x y) (value_behind ys (saids_before c p mk l old ft (Wrote y t) ys s) e)
+    value_behind (Wrote y t ∷ ys) s e = by_same (same_context x y) (value_behind ys (saids_before c mk l old ft (Wrote y t) ys s) e)
       where
         by_same : (b : Bool) → value c.tabs x fld (ys ++ old) ≡ Some (or_else (value_said x fld ys) base)
             → (if b then or_later (new_value t fld) (value c.tabs x fld (ys ++ old)) else value c.tabs x fld (ys ++ old)) ≡ Some (or_else (or_later (if b then new_value t fld else None) (value_said x fld ys)) base)
         by_same false rest = rest
         by_same true rest = over_value (new_value t fld) (value c.tabs x fld (ys ++ old)) (or_else (value_said x fld ys) base) rest ∙ ap Some (sym (else_later (new_value t fld) (value_said x fld ys) base))
-    value_behind (Acked q y ∷ ys) s e = value_behind ys (saids_before c p mk l old ft (Acked q y) ys s) e
-    value_behind (Counted q ∷ ys) s e = value_behind ys (saids_before c p mk l old ft (Counted q) ys s) e
-    value_behind (Sent q ∷ ys) s e = value_behind ys (saids_before c p mk l old ft (Sent q) ys s) e
-    value_behind (Ended q cause ∷ ys) s e = value_behind ys (saids_before c p mk l old ft (Ended q cause) ys s) e
+    value_behind (Acked q y ∷ ys) s e = value_behind ys (saids_before c mk l old ft (Acked q y) ys s) e
+    value_behind (Counted q ∷ ys) s e = value_behind ys (saids_before c mk l old ft (Counted q) ys s) e
+    value_behind (Sent q ∷ ys) s e = value_behind ys (saids_before c mk l old ft (Sent q) ys s) e
+    value_behind (Ended q cause ∷ ys) s e = value_behind ys (saids_before c mk l old ft (Ended q cause) ys s) e
 
 -- ---- a commit that is heard
 
@@ -255,6 +271,14 @@ module _ (allows : Field → Bool) (f : Facts) (p : ℕ) (y : ContextId) (t : Ch
           (subst (λ v. Result (new_value t fld) v (content_of x ln fld (sent_back notes f y))) s
           (subst (λ d. Result (new_value t fld) (if is_applied mark then new_value t fld else None) d) g
           (by_mark (is_applied mark) (new_value t fld) at (here e))))
+
+-- what goes back is no coming
+pub back_single : (ns : List FieldNote) (f : Facts) (y : ContextId) → singles (sent_back ns f y) ≡ sent_back ns f y
+back_single ns f y = by_any (list_any is_some (values_where (is_noted is_reverted ns) f y))
+  where
+    by_any : (b : Bool) → singles (if b then downs.Commit y (values_where (is_noted is_reverted ns) f y) ∷ [] else []) ≡ (if b then downs.Commit y (values_where (is_noted is_reverted ns) f y) ∷ [] else [])
+    by_any true = refl
+    by_any false = refl
 
 -- the events of a hear that did something
 pub heard_accepts : (k : ℕ) (w : Written) (answer : Answer) (says : List Saying) → is_done answer ≡ true → heard k w answer says None ≡ Accepts k w ∷ []

@@ -29,8 +29,8 @@ use Rattle.traces.specs.Field.{Content, Trace, reverted_for}
 use Rattle.traces.specs.Field.Content.{Nothing, Gives, Removes}
 use Rattle.traces.specs.Links.{writes, bundles_sent, hears}
 use Rattle.traces.specs.Rules.{Flows, IsNoNews, NoNews}
-use Rattle.traces.specs.Words.{Stage, or_else}
-use Rattle.traces.specs.Words.Stage.{Coming, Held, Gone}
+use Rattle.traces.specs.Words.{or_else}
+use Rattle.traces.specs.Words.Stage.{Coming, Held}
 use Rattle.traces.specs.Words as words
 use Rattle.traces.proofs.Stages.{untouched_value}
 use Rattle.trees.specs.Look.{Effect}
@@ -41,19 +41,21 @@ use Rattle.trees.proofs.Lists.{all_push}
 use Rattle.model.specs.Lines.{Making, line, above_in, is_among}
 use Rattle.model.specs.Moments.{Moment, Written, ProcessEvent, said, events_of, facts_now, seen_now, own_known, deed, told, heard, written}
 use Rattle.model.specs.Moments.Written.{Own, Said}
-use Rattle.model.specs.Parent.{ended, known, live, value}
-use Rattle.model.specs.Trees.{both, comes_if, goes_if, parts_do, says_do, is_of_its_tabs, tree_look}
-use Rattle.model.specs.View.{value_for, value_in_parts, value_said, value_written, content_of}
+use Rattle.model.specs.Parent.{known, live, value}
+use Rattle.model.specs.Trees.{both, comes_if, goes_if, parts_do, says_do, tree_look}
+use Rattle.model.specs.View.{value_for, value_in_parts, value_said, value_written, singles, content_of}
 use Rattle.model.proofs.Cases.{by_if, true_false, same_context_is, none_some}
-use Rattle.model.proofs.Contents.{content_by, later_none, posted_content}
+use Rattle.model.proofs.Contents.{content_by, later_none}
 use Rattle.model.proofs.Entry.{IsAck, IsSending, IsAcking, Says, HeardCommit, Hearing, Entry, Posted}
 use Rattle.model.proofs.Entry.Entry.{Idle, Sets, Frames, Drops, TakesOne, Tells, Killing, HearsOne}
 use Rattle.model.proofs.Entry.Hearing.{AsMade, AsLate, AsDrop, AsOldDrop, AsAcks, AsCommit, AsOldCommit, AsOver}
 use Rattle.model.proofs.FieldBefore.{FieldBefore, FieldTies, MadeFirst, IsUnsaid, stage_until}
-use Rattle.model.proofs.FieldFacts.{entry_fits, unsaid, value_behind, WasApplied, WasSentBack, heard_accepts, heard_reverts}
-use Rattle.model.proofs.FieldFits.{acks_write, ended_none, fits_next, fits_frame, framed_above, held_tree, commit_answer, wrote_is}
+use Rattle.model.proofs.FieldFacts.{entry_fits, unsaid, value_behind, WasApplied, WasSentBack, back_single, heard_accepts, heard_reverts}
+use Rattle.model.proofs.FieldFits.{acks_write, fits_next, fits_frame, framed_above, held_tree, commit_answer, wrote_is}
 use Rattle.model.proofs.Living.{both_stays, comes_when}
 use Rattle.model.proofs.Owning.{known_all, created_known}
+use Rattle.model.proofs.PostedContents.{is_aware, posted_content, LateContent, late_content}
+use Rattle.model.proofs.PostedContents.LateContent.{IsNothing, IsWhole, IsRemoved}
 use Rattle.model.proofs.Rising.{entry_next}
 use Rattle.model.proofs.Stages.{trace_of, tree_stage, same_stage, acks_posted, by_acks, acks_do}
 use Rattle.model.proofs.Telling.{Saids, comes_created}
@@ -111,7 +113,7 @@ made_new : (does : Written → Effect) (value_in : Written → Option Value) (ws
 made_new does value_in [] w none = (inr (λ none. none), tt)
 made_new does value_in (v ∷ ws) w none = (inl none.0, made_new does value_in ws w none.1)
 
-module _ (c : Config) (p : ℕ) (mk : List Making) (x : ContextId) (fld : Field) (mine : is_of_its_tabs c p mk x ≡ true) (ms : List Moment) (m : Moment) (b : FieldBefore c p mk ms m) (t : FieldTies c p mk x fld ms) where
+module _ (c : Config) (p : ℕ) (mk : List Making) (x : ContextId) (fld : Field) (ms : List Moment) (m : Moment) (b : FieldBefore c p mk ms m) (t : FieldTies c p mk x fld ms) where
   abbrev h : List ProcessEvent
   h = events_of p ms
 
@@ -136,7 +138,7 @@ module _ (c : Config) (p : ℕ) (mk : List Making) (x : ContextId) (fld : Field)
   value_accepted k u is same = ap (λ gs. words.value (initial fld) (Next gs)) is ∙ ap (λ o. or_else o (words.value (initial fld) T)) (sym same)
 
   value_reverted : (k : ℕ) (u : UpBundle) (d : DownBundle) → m.events p ≡ Reverts k (Own u) d ∷ []
-      → words.value (initial fld) (reverted_for k (value_in_parts x fld u.parts) (content_of x (line x mk) fld d.parts) (trace_of c p mk x fld (events_of p ms))) ≡ or_else (value_said x fld m.says) (words.value (initial fld) (trace_of c p mk x fld (events_of p ms)))
+      → words.value (initial fld) (reverted_for k (value_in_parts x fld u.parts) (content_of x (line x mk) fld (singles d.parts)) (trace_of c p mk x fld (events_of p ms))) ≡ or_else (value_said x fld m.says) (words.value (initial fld) (trace_of c p mk x fld (events_of p ms)))
       → ValueIs (m.events p) m.says
   value_reverted k u d is same = ap (λ gs. words.value (initial fld) (Next gs)) is ∙ same
 
@@ -155,14 +157,14 @@ module _ (c : Config) (p : ℕ) (mk : List Making) (x : ContextId) (fld : Field)
     says_is = commit_said y (applied ns d) is.says
 
     heard_is : value_in_parts x fld u.parts ≡ value_for x fld y d
-    heard_is = wrote_is c p mk x fld mine ms m b t u y d ns back is
+    heard_is = wrote_is c p mk x fld ms m b t u y d ns back is
 
     abbrev Back : Content Value
     Back = content_of x (line x mk) fld (sent_back ns (facts_now c ms) y)
 
     -- none comes back, so it was applied
     commit_applied : Back ≡ Nothing → value_said x fld m.says ≡ value_in_parts x fld u.parts
-    commit_applied none = by_answer (commit_answer c p mk x fld mine ms m b t u y d ns back is)
+    commit_applied none = by_answer (commit_answer c p mk x fld ms m b t u y d ns back is)
       where
         by_answer : WasApplied (value_for x fld y d) (value_for x fld y (applied ns d)) (content_of x (line x mk) fld (sent_back ns (facts_now c ms) y))
             ⊎ WasSentBack ((facts_now c ms).contexts.value x fld) (value_for x fld y d) (value_for x fld y (applied ns d)) (content_of x (line x mk) fld (sent_back ns (facts_now c ms) y))
@@ -172,7 +174,7 @@ module _ (c : Config) (p : ℕ) (mk : List Making) (x : ContextId) (fld : Field)
 
     commit_back : (k : ℕ) (content : Content Value) → content_of x (line x mk) fld (sent_back ns (facts_now c ms) y) ≡ content
         → words.value (initial fld) (reverted_for k (value_in_parts x fld u.parts) content (trace_of c p mk x fld (events_of p ms))) ≡ or_else (value_said x fld m.says) (words.value (initial fld) (trace_of c p mk x fld (events_of p ms)))
-    commit_back k content e = by_answer (commit_answer c p mk x fld mine ms m b t u y d ns back is)
+    commit_back k content e = by_answer (commit_answer c p mk x fld ms m b t u y d ns back is)
       where
         none_back : (o : Option Value) → words.value (initial fld) (reverted_for k o Nothing (trace_of c p mk x fld (events_of p ms))) ≡ or_else o (words.value (initial fld) (trace_of c p mk x fld (events_of p ms)))
         none_back None = refl
@@ -197,7 +199,8 @@ module _ (c : Config) (p : ℕ) (mk : List Making) (x : ContextId) (fld : Field)
         none_of (a ∷ parts) e = absurd cc
     commit_value (Some e) events same =
         value_reverted (length ms + 1) u e (events ∙ heard_reverts (length ms + 1) (Own u) m.answer m.says e is.done)
-        (commit_back (length ms + 1) (content_of x (line x mk) fld e.parts) (ap (content_of x (line x mk) fld) (parts_of e (sent_back ns (facts_now c ms) y) same)))
+        (commit_back (length ms + 1) (content_of x (line x mk) fld (singles e.parts))
+        (ap (content_of x (line x mk) fld) (sym (back_single ns (facts_now c ms) y) ∙ ap singles (parts_of e (sent_back ns (facts_now c ms) y) same))))
 
   acks_value : (d : Bundle DownBundle) (parts : List UpPart) → AllByRecursion IsAck parts
       → words.value (initial fld) (trace_of c p mk x fld ((written (bundle_sent (seen_now c p (m ∷ ms)) parts) ++ Takes d ∷ []) ++ events_of p ms)) ≡ words.value (initial fld) (trace_of c p mk x fld (events_of p ms))
@@ -216,7 +219,7 @@ module _ (c : Config) (p : ℕ) (mk : List Making) (x : ContextId) (fld : Field)
   hears_value : (u : UpBundle) → Hearing c p ms m u → ValueIs (m.events p) m.says
   hears_value u (AsMade y a is) = value_accepted (length ms + 1) u is.events (core_value (Made p y a ∷ []) is.says ∙ sym (ap (value_in_parts x fld) is.parts))
   hears_value u (AsLate y a d is) = value_reverted (length ms + 1) u d is.events
-      (late_value (length ms + 1) u y a (content_of x (line x mk) fld d.parts) is.parts ∙ ap (λ o. or_else o (words.value (initial fld) T)) (sym (core_value (BornDead p y a ∷ []) is.says)))
+      (late_value (length ms + 1) u y a (content_of x (line x mk) fld (singles d.parts)) is.parts ∙ ap (λ o. or_else o (words.value (initial fld) T)) (sym (core_value (BornDead p y a ∷ []) is.says)))
   hears_value u (AsDrop y is) = value_accepted (length ms + 1) u is.events (core_value (Removed y (Some p) ∷ []) is.says ∙ sym (ap (value_in_parts x fld) is.parts))
   hears_value u (AsOldDrop y is) = value_still (Ignores (length ms + 1) (Own u) ∷ []) is.events (none_said is.says) refl
   hears_value u (AsAcks is) = value_accepted (length ms + 1) u is.events (acking_value x fld m.says is.says ∙ sym (acks_write x fld u.parts is.parts))
@@ -236,12 +239,12 @@ module _ (c : Config) (p : ℕ) (mk : List Making) (x : ContextId) (fld : Field)
       (ap (λ o. or_else o (words.value (initial fld) T)) (ap (value_said x fld) is.says))
   value_next (HearsOne u rest first hears) = hears_value u hears
 
-  saids : Entry c p ms m → Saids c p mk b.lined (said ms) b.facts m.says
+  saids : Entry c p ms m → Saids c mk b.lined (said ms) b.facts m.says
   saids e = record { told = b.told; fits = entry_fits c p ms m b.low e }
 
   pub told_next : Entry c p ms m → (facts_now c (m ∷ ms)).contexts.live x ≡ true → (facts_now c (m ∷ ms)).contexts.value x fld ≡ Some (words.value (initial fld) (trace_of c p mk x fld (m.events p ++ events_of p ms)))
   told_next e live =
-      value_behind c p mk b.lined (said ms) b.facts x fld (words.value (initial fld) T) t.told (λ new. untouched_value (initial fld) T (t.unknown new).untouched) m.says (saids e) live
+      value_behind c mk b.lined (said ms) b.facts x fld (words.value (initial fld) T) t.told (λ new. untouched_value (initial fld) T (t.unknown new).untouched) m.says (saids e) live
       ∙ ap Some (sym (value_next e))
 
   -- ---- what isn't known
@@ -261,7 +264,7 @@ module _ (c : Config) (p : ℕ) (mk : List Making) (x : ContextId) (fld : Field)
     un = t.unknown new_before_it
 
     none_now : value_said x fld m.says ≡ None
-    none_now = unsaid c p mk b.lined (said ms) b.facts x fld m.says (saids e) new
+    none_now = unsaid c mk b.lined (said ms) b.facts x fld m.says (saids e) new
 
     never_comes : says_do x (line x mk) m.says ≡ Comes → ⊥
     never_comes comes = true_false (known c.tabs x (m.says ++ said ms)) (created_known c (said ms) m.says x (entry_fits c p ms m b.low e) (comes_created x mk m.says comes)) new
@@ -269,19 +272,29 @@ module _ (c : Config) (p : ℕ) (mk : List Making) (x : ContextId) (fld : Field)
     unsaid_told : (posts : List DownPart) → Posted c p (said ms) m.says posts → (parts : List DownPart) → in_order posts ≡ parts → Flows (told (length ms + 1) m.says (bundle_for (facts_now c (m ∷ ms)) p parts) ∷ events_of p ms)
         → Unsaid (told (length ms + 1) m.says (bundle_for (facts_now c (m ∷ ms)) p parts) ∷ [])
     unsaid_told posts posted [] is flows = record { untouched = (none_now, un.untouched); no_news = un.no_news }
-    unsaid_told posts posted (d ∷ ds) is flows = unsaid_sends (length ms + 1) (value_said x fld m.says) (content_of x (line x mk) fld (d ∷ ds)) T none_now
-        (subst IsNoNews (sym content_is) (no_news_by (says_do x (line x mk) m.says) (initial fld) never_comes)) un
+    unsaid_told posts posted (d ∷ ds) is flows = unsaid_sends (length ms + 1) (value_said x fld m.says) (content_of x (line x mk) fld (singles (d ∷ ds))) T none_now
+        (subst (λ ps. IsNoNews (content_of x (line x mk) fld (singles ps))) is (by_told (is_aware c p mk x (said ms)) refl)) un
       where
-        content_is : content_of x (line x mk) fld (d ∷ ds) ≡ content_by (says_do x (line x mk) m.says) None (initial fld)
-        content_is =
-            ap (content_of x (line x mk) fld) (sym is)
-            ∙ posted_content c p mk b.lined (said ms) b.facts b.low (ended_none (ended p (said ms)) (sym b.over ∙ flows.0)) b.fit m.says posts (saids e) posted x fld mine
-            ∙ ap (λ o. content_by (says_do x (line x mk) m.says) o (initial fld)) none_now
+        base : Value
+        base = words.value (initial fld) (trace_of c p mk x fld (events_of p ms))
+
+        late_news : (d : Content Value)
+            → LateContent c p mk b.lined (said ms) b.facts b.low x fld base t.told (λ new. untouched_value (initial fld) T (t.unknown new).untouched) m.says d → IsNoNews d
+        late_news d (IsNothing is) = subst IsNoNews (sym is) tt
+        late_news d (IsWhole is_known is) = true_false (known c.tabs x (m.says ++ said ms)) is_known new
+        late_news d (IsRemoved is) = subst IsNoNews (sym is) tt
+
+        by_told : (v : Bool) → is_aware c p mk x (said ms) ≡ v → IsNoNews (content_of x (line x mk) fld (singles (in_order posts)))
+        by_told true aware = subst IsNoNews
+            (sym (posted_content c p mk b.lined (said ms) b.facts b.low x fld aware m.says posts (saids e) posted ∙ ap (λ o. content_by (says_do x (line x mk) m.says) o (initial fld)) none_now))
+            (no_news_by (says_do x (line x mk) m.says) (initial fld) never_comes)
+        by_told false unaware = late_news (content_of x (line x mk) fld (singles (in_order posts)))
+            (late_content c p mk b.lined (said ms) b.facts b.low x fld base t.told (λ new. untouched_value (initial fld) T (t.unknown new).untouched) unaware m.says posts (saids e) posted)
 
     unsaid_late : (k : ℕ) (u : UpBundle) (y a : ContextId) (d : DownBundle) → u.parts ≡ ups.Create y a ∷ [] → d.parts ≡ downs.Discard y ∷ [] → Unsaid (Reverts k (Own u) d ∷ [])
     unsaid_late k u y a d is back =
-        unsaid_back k (value_in_parts x fld u.parts) (content_of x (line x mk) fld d.parts) T (ap (value_in_parts x fld) is)
-        (subst (λ ds. IsNoNews (content_of x (line x mk) fld ds)) (sym back) (by_line (is_among y (line x mk)))) un
+        unsaid_back k (value_in_parts x fld u.parts) (content_of x (line x mk) fld (singles d.parts)) T (ap (value_in_parts x fld) is)
+        (subst (λ ds. IsNoNews (content_of x (line x mk) fld (singles ds))) (sym back) (by_line (is_among y (line x mk)))) un
       where
         by_line : (v : Bool) → IsNoNews {V = Value} (if v then Removes else Nothing)
         by_line true = tt
@@ -299,7 +312,7 @@ module _ (c : Config) (p : ℕ) (mk : List Making) (x : ContextId) (fld : Field)
       none_wrote = heard_is u y d ns back is ∙ ap (λ (v : Bool). if v then new_value d fld else None) elsewhere
 
       none_comes_back : content_of x (line x mk) fld (sent_back ns (facts_now c ms) y) ≡ Nothing
-      none_comes_back = by_answer (commit_answer c p mk x fld mine ms m b t u y d ns back is)
+      none_comes_back = by_answer (commit_answer c p mk x fld ms m b t u y d ns back is)
         where
           by_answer : WasApplied (value_for x fld y d) (value_for x fld y (applied ns d)) (content_of x (line x mk) fld (sent_back ns (facts_now c ms) y))
               ⊎ WasSentBack ((facts_now c ms).contexts.value x fld) (value_for x fld y d) (value_for x fld y (applied ns d)) (content_of x (line x mk) fld (sent_back ns (facts_now c ms) y))
@@ -310,8 +323,8 @@ module _ (c : Config) (p : ℕ) (mk : List Making) (x : ContextId) (fld : Field)
       unsaid_commit : (o : Option DownBundle) → m.events p ≡ heard (length ms + 1) (Own u) m.answer m.says o → bundle_for (facts_now c (m ∷ ms)) p (sent_back ns (facts_now c ms) y) ≡ o → Unsaid (m.events p)
       unsaid_commit None events same = subst Unsaid (sym (events ∙ heard_accepts (length ms + 1) (Own u) m.answer m.says is.done)) (unsaid_accepts (length ms + 1) (value_in_parts x fld u.parts) T none_wrote un)
       unsaid_commit (Some g) events same = subst Unsaid (sym (events ∙ heard_reverts (length ms + 1) (Own u) m.answer m.says g is.done))
-          (unsaid_back (length ms + 1) (value_in_parts x fld u.parts) (content_of x (line x mk) fld g.parts) T none_wrote
-          (subst IsNoNews (sym (ap (content_of x (line x mk) fld) (sym (parts_of g (sent_back ns (facts_now c ms) y) same)) ∙ none_comes_back)) tt) un)
+          (unsaid_back (length ms + 1) (value_in_parts x fld u.parts) (content_of x (line x mk) fld (singles g.parts)) T none_wrote
+          (subst IsNoNews (sym (ap (content_of x (line x mk) fld) (ap singles (sym (parts_of g (sent_back ns (facts_now c ms) y) same)) ∙ back_single ns (facts_now c ms) y) ∙ none_comes_back)) tt) un)
 
     unsaid_hears : (u : UpBundle) → Hearing c p ms m u → Unsaid (m.events p)
     unsaid_hears u (AsMade y a is) = subst Unsaid (sym is.events) (unsaid_accepts (length ms + 1) (value_in_parts x fld u.parts) T (ap (value_in_parts x fld) is.parts) un)
@@ -336,20 +349,14 @@ module _ (c : Config) (p : ℕ) (mk : List Making) (x : ContextId) (fld : Field)
     unsaid_of (Tells posts is) = subst Unsaid (sym is.events) (unsaid_told posts is.posted (in_order posts) refl (subst (λ es. Flows (es ++ events_of p ms)) is.events b.next_flows))
     unsaid_of (Killing d is) = subst Unsaid (sym is.events) (record { untouched = sent.untouched; no_news = sent.no_news })
       where
-        sent : IsUnsaid (Sends (length ms + 1) (value_said x fld m.says) (content_of x (line x mk) fld d.parts) ∷ trace_of c p mk x fld (events_of p ms))
-        sent = unsaid_sends (length ms + 1) (value_said x fld m.says) (content_of x (line x mk) fld d.parts) T none_now (subst (λ ds. IsNoNews (content_of x (line x mk) fld ds)) (sym is.kill) tt) un
+        sent : IsUnsaid (Sends (length ms + 1) (value_said x fld m.says) (content_of x (line x mk) fld (singles d.parts)) ∷ trace_of c p mk x fld (events_of p ms))
+        sent = unsaid_sends (length ms + 1) (value_said x fld m.says) (content_of x (line x mk) fld (singles d.parts)) T none_now (subst (λ ds. IsNoNews (content_of x (line x mk) fld (singles ds))) (sym is.kill) tt) un
     unsaid_of (HearsOne u rest first hears) = unsaid_hears u hears
 
     pub unknown_next : IsUnsaid (trace_of c p mk x fld (m.events p ++ events_of p ms))
     unknown_next = unsaid_of e
 
   -- ---- writes
-
-  abbrev Unwritten : List ProcessEvent → Type 0
-  Unwritten es = tree_stage c p mk x fld (es ++ events_of p ms) ≡ Coming → AllByRecursion (λ w. value_written x fld w ≡ None) (writes (es ++ events_of p ms))
-
-  abbrev MadeNext : List ProcessEvent → Type 0
-  MadeNext es = MadeFirst ((tree_look c p mk).does x) (value_written x fld) (writes (es ++ events_of p ms))
 
   -- both of the events that add no writes and change no stage
   pub record WritesNext (es : List ProcessEvent) : Type 0 where
@@ -386,9 +393,6 @@ module _ (c : Config) (p : ℕ) (mk : List Making) (x : ContextId) (fld : Field)
   hears_writes u (AsOldCommit y d is) = subst WritesNext (sym is.events) (ignores_writes (length ms + 1) u)
   hears_writes u (AsOver is) = subst WritesNext (sym is.events) (ignores_writes (length ms + 1) u)
 
-  own_does : (u : UpBundle) → (tree_look c p mk).does x (Own u) ≡ parts_do x (line x mk) u.parts
-  own_does u = ap (λ (v : Bool). if v then parts_do x (line x mk) u.parts else NoEffect) mine
-
   -- one write more, behind what a bundle or the process itself did
   one_more : (u : UpBundle) → (tree_stage c p mk x fld (events_of p ms) ≡ Coming → value_in_parts x fld u.parts ≡ None) → (parts_do x (line x mk) u.parts ≡ Comes → tree_stage c p mk x fld (events_of p ms) ≡ Coming) → WritesNext (Writes (Own u) ∷ [])
   one_more u none new = record {
@@ -399,7 +403,7 @@ module _ (c : Config) (p : ℕ) (mk : List Making) (x : ContextId) (fld : Field)
   }
     where
       unless_comes : (a : Effect) → parts_do x (line x mk) u.parts ≡ a → (a ≡ Comes → ⊥) → MadeFirst ((tree_look c p mk).does x) (value_written x fld) (writes (events_of p ms) ++ Own u ∷ [])
-      unless_comes a is other = made_push ((tree_look c p mk).does x) (value_written x fld) (writes h) (Own u) (λ comes. other (sym (own_does u ∙ is) ∙ comes)) t.made_first
+      unless_comes a is other = made_push ((tree_look c p mk).does x) (value_written x fld) (writes h) (Own u) (λ comes. other (sym is ∙ comes)) t.made_first
 
       by_does : (a : Effect) → parts_do x (line x mk) u.parts ≡ a → MadeFirst ((tree_look c p mk).does x) (value_written x fld) (writes (events_of p ms) ++ Own u ∷ [])
       by_does Comes is = made_new ((tree_look c p mk).does x) (value_written x fld) (writes h) (Own u) (t.unwritten (new is))
@@ -416,12 +420,12 @@ module _ (c : Config) (p : ℕ) (mk : List Making) (x : ContextId) (fld : Field)
       by_same : (v : Bool) → same_context x y ≡ v → tree_stage c p mk x fld (events_of p ms) ≡ Coming → or_later (if v then new_value d fld else None) None ≡ None
       by_same false one coming = refl
       by_same true one coming =
-          let is_held : tree_stage c p mk x fld h ≡ Held = sym (stage_until c p mk x h) ∙ held_tree c p mk x fld mine ms m b t x (ap (seen_now c p ms).holds (same_context_is x y one) ∙ held) in
+          let is_held : tree_stage c p mk x fld h ≡ Held = sym (stage_until c p mk x h) ∙ held_tree c p mk x fld ms m b t x (ap (seen_now c p ms).holds (same_context_is x y one) ∙ held) in
           let two : Coming ≡ Held = sym coming ∙ is_held in absurd cc
 
   frame_writes : (a : ContextId) (u : UpBundle) → u.parts ≡ ups.Create (next_frame p (seen_now c p ms)) a ∷ [] → (seen_now c p ms).holds a ≡ true → above_in mk (next_frame p (seen_now c p ms)) ≡ Some a → WritesNext (Writes (Own u) ∷ [])
   frame_writes a u is held up = one_more u (λ coming. ap (value_in_parts x fld) is) (λ comes.
-      sym t.stages ∙ (fits_frame c p mk x fld mine ms m b t a held up
+      sym t.stages ∙ (fits_frame c p mk x fld ms m b t a held up
       (comes_when (same_context x (next_frame p (seen_now c p ms))) (sym (ap (parts_do x (line x mk)) is ∙ both_stays (comes_if (same_context x (next_frame p (seen_now c p ms))))) ∙ comes))).unheld)
 
   drop_writes : (y : ContextId) (u : UpBundle) → u.parts ≡ ups.Drop y ∷ [] → WritesNext (Writes (Own u) ∷ [])
@@ -437,16 +441,16 @@ module _ (c : Config) (p : ℕ) (mk : List Making) (x : ContextId) (fld : Field)
   acked_writes : (d : Bundle DownBundle) (parts : List UpPart) → AllByRecursion IsAck parts → WritesNext (written (bundle_sent (seen_now c p (m ∷ ms)) parts) ++ Takes d ∷ [])
   acked_writes d parts acks = by_acks (λ es. WritesNext (es ++ Takes d ∷ [])) (seen_now c p (m ∷ ms)) parts acks (took_writes d) (λ u plain. record {
     unwritten = λ coming.
-        let none : (tree_look c p mk).does x (Own u) ≡ NoEffect = own_does u ∙ acks_do x (line x mk) u.parts plain in
+        let none : (tree_look c p mk).does x (Own u) ≡ NoEffect = acks_do x (line x mk) u.parts plain in
         all_push (λ w. value_written x fld w ≡ None) (writes h) (Own u) ((took_writes d).unwritten (new_before ((tree_look c p mk).does x (Own u)) (tree_stage c p mk x fld (Takes d ∷ h)) coming)) (acks_write x fld u.parts plain);
-    made_first = made_push ((tree_look c p mk).does x) (value_written x fld) (writes h) (Own u) (λ comes. let two : NoEffect ≡ Comes = sym (own_does u ∙ acks_do x (line x mk) u.parts plain) ∙ comes in absurd cc) t.made_first;
+    made_first = made_push ((tree_look c p mk).does x) (value_written x fld) (writes h) (Own u) (λ comes. let two : NoEffect ≡ Comes = sym (acks_do x (line x mk) u.parts plain) ∙ comes in absurd cc) t.made_first;
   })
 
   writes_next : Entry c p ms m → WritesNext (m.events p)
   writes_next (Idle is) = subst WritesNext (sym is.events) as_before
   writes_next (Sets y d u is) = subst WritesNext (sym is.events) (set_writes y d u is.sent.parts is.held)
   writes_next (Frames a u is) = subst WritesNext (sym is.events)
-      (beside u (downs.Create (own_known (seen_now c p (m ∷ ms)) (next_frame p (seen_now c p ms)) a)) (frame_writes a u is.sent.parts is.held (framed_above c p mk x fld mine ms m b t (next_frame p (seen_now c p ms)) a is.did)))
+      (beside u (downs.Create (own_known (seen_now c p (m ∷ ms)) (next_frame p (seen_now c p ms)) a)) (frame_writes a u is.sent.parts is.held (framed_above c p mk x fld ms m b t (next_frame p (seen_now c p ms)) a is.did)))
   writes_next (Drops y u is) = subst WritesNext (sym is.events) (beside u (downs.Discard y) (drop_writes y u is.sent.parts))
   writes_next (TakesOne d rest is) = subst WritesNext (sym is.events)
       (acked_writes d _ (by_if (AllByRecursion IsAck) (list_any is_kill d.content.parts) [] _ (λ kill. tt) (λ lives. acks_posted p d.content.epoch.0 _ _ d.content.parts [])))
@@ -460,8 +464,8 @@ module _ (c : Config) (p : ℕ) (mk : List Making) (x : ContextId) (fld : Field)
   field_kept e = record {
     apart = (entry_next c p mk x fld ms m t.apart t.now_is e).apart;
     now_is = omega (arith, (entry_next c p mk x fld ms m t.apart t.now_is e).now_is);
-    stages = same_stage c p mk x fld mine ms m t.stages e;
-    fits = fits_next c p mk x fld mine ms m b t e;
+    stages = same_stage c p mk x fld ms m t.stages e;
+    fits = fits_next c p mk x fld ms m b t e;
     told = told_next e;
     unknown = λ new. unknown_next e new;
     unwritten = (writes_next e).unwritten;

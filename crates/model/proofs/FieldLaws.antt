@@ -1,29 +1,27 @@
 -- The laws of fields: a process shows its view, quiet links, reverts that wait, and who is ended.
-use Rattle.std.proofs.Common.{◌≡◌, ℕ, ◌<◌, ◌≤◌, true, Option, None, Some, List, [], ◌∷◌, ◌++◌, length, map, refl, ap, ap₂, sym, subst, ◌∙◌, arith}
+use Rattle.std.proofs.Common.{◌≡◌, ℕ, ◌<◌, ◌≤◌, true, Option, None, Some, List, [], ◌∷◌, ◌++◌, length, map, ap, ap₂, sym, subst, ◌∙◌, arith}
 use Rattle.std.specs.Prelude.{unwrap_or, max}
 use Rattle.fission_ids.specs.declared.context.ContextId.{ContextId}
 use Rattle.field_table.specs.declared.field.Field.{Field}
 use Rattle.field_table.specs.declared.value.Value.{Value}
 use Rattle.wire_msgs.specs.declared.bundle.DownBundle.{DownBundle}
 use Rattle.wire_msgs.specs.declared.config.Config.{Config}
-use Rattle.traces.specs.Event.{Bundle}
 use Rattle.traces.specs.Field.{bundle_for}
 use Rattle.traces.specs.Laws.{Projected}
 use Rattle.traces.specs.Links.{writes_waiting, bundles_waiting}
 use Rattle.traces.specs.Rules.{Keeps}
-use Rattle.traces.specs.Words.{Stage, Fate, stage}
-use Rattle.traces.specs.Words.Stage.{Coming, Held, Gone}
+use Rattle.traces.specs.Words.{Fate, stage}
+use Rattle.traces.specs.Words.Stage.{Held}
 use Rattle.traces.specs.Words.Fate.{Unheard, Accepted, Reverted, Ignored}
 use Rattle.traces.specs.Words as words
-use Rattle.trees.specs.Words.{is_held}
 use Rattle.model.specs.Laws.{RunFits, IsAtRest, PointNeverFalls, ProcessShowsTheView, QuietShowsTheParent, RevertsWait, HonestAreOnlyKilled}
 use Rattle.model.specs.Lines.{Making, makings, line}
 use Rattle.model.specs.Moments.{Moment, Written, ProcessEvent, moment, events_of, moments_of}
 use Rattle.model.specs.Next.{Run, run_with}
-use Rattle.model.specs.Trees.{is_of_its_tabs}
-use Rattle.model.specs.View.{look, value_written, content_of, begin, trace, view, entry_of_revert}
+use Rattle.model.specs.View.{look, value_written, singles, content_of, begin, trace, view, entry_of_revert}
 use Rattle.model.proofs.Fields.{all_keep, all_views}
-use Rattle.model.proofs.QuietTrees.{all, run, runs, st, ts, up, down, held_live}
+use Rattle.model.proofs.Living.{held_only}
+use Rattle.model.proofs.QuietTrees.{all, run, runs, ts, up, down, held_live, held_told}
 use Rattle.model.proofs.RunHolds.{Holds, holds, own_run}
 use Rattle.model.proofs.Run.{RunTies, all_behind}
 use Rattle.traces.proofs.Projection.{projection}
@@ -66,30 +64,21 @@ reverts_stand r p x f n k fits lt honest reverted open_yet =
 
 -- ---- quiet links
 
-content_in : Bundle DownBundle → DownBundle
-content_in b = b.content
-
-pub is_held_only : (s : Stage) → is_held s ≡ true → s ≡ Held
-is_held_only Coming e = absurd cc
-is_held_only Held e = refl
-is_held_only Gone e = absurd cc
-
 pub quiet_shows : QuietShowsTheParent
 unfolding view
 quiet_shows r p x f fits lt honest alive nothing held =
     let rest : IsAtRest r p = record { fits = fits; process = lt; honest = honest; runs = alive; quiet = nothing } in
-    let mine : is_of_its_tabs r.config p (makings p (moments_of r.config r.journal)) x ≡ true = (st r p rest).held_root x held in
-    let holds_x : FieldHolds r.config p (makings p (moments_of r.config r.journal)) x f (moments_of r.config r.journal) = (run r p rest).fields.own x f mine in
+    let holds_x : FieldHolds r.config p (makings p (moments_of r.config r.journal)) x f (moments_of r.config r.journal) = (run r p rest).fields.own x f in
     let t : Holds r.config p (moments_of r.config r.journal) = all r p rest in
     let same : Projected (look x f (makings p (moments_of r.config r.journal))) (events_of p (moments_of r.config r.journal)) =
     projection Written DownBundle Value (look x f (makings p (moments_of r.config r.journal))) (events_of p (moments_of r.config r.journal)) (run r p rest).flows t.rises.rises holds_x.ties.apart in
     let up_none : writes_waiting (trace p x f (moments_of r.config r.journal)) ≡ [] = same.writes_wait ∙ ap (map (look x f (makings p (moments_of r.config r.journal))).value_in) (up r p rest) in
     let down_none : bundles_waiting (trace p x f (moments_of r.config r.journal)) ≡ [] = same.bundles_wait ∙ ap (map (bundle_for (look x f (makings p (moments_of r.config r.journal))).content_in)) (down r p rest) in
-    let in_stage : stage (begin r.config p x f).stage (trace p x f (moments_of r.config r.journal)) ≡ Held = holds_x.ties.stages ∙ is_held_only _ ((ts r p rest).stages x mine ∙ held) in
+    let in_stage : stage (begin r.config p x f).stage (trace p x f (moments_of r.config r.journal)) ≡ Held = holds_x.ties.stages ∙ held_only _ ((ts r p rest).stages x ∙ held) in
     let keeps : Keeps (begin r.config p x f) (trace p x f (moments_of r.config r.journal)) = trace_keeps r p x f t in
     sym (shows_the_view Value (begin r.config p x f) (trace p x f (moments_of r.config r.journal)) keeps)
     ∙ quiet Value (begin r.config p x f) (trace p x f (moments_of r.config r.journal)) keeps (same.same_end ∙ runs r p rest) in_stage up_none down_none
-    ∙ sym (holds_x.ties.told (sym (held_live r p rest x mine) ∙ held))
+    ∙ sym (holds_x.ties.told (sym (held_live r p rest x (held_told r p rest x held)) ∙ held))
 
 -- ---- the point never falls
 
@@ -120,7 +109,7 @@ event_back g j (Some v) Leaves k before = two_events g k before
 
 more_events : (start : Start Value) (x : ContextId) (f : Field) (mk : List Making) (new evs : List ProcessEvent) → Keeps start (trace_for (look x f mk) (new ++ evs)) → RisesTo (trace_for (look x f mk) evs) (trace_for (look x f mk) (new ++ evs))
 more_events start x f mk [] evs k = (omega arith, omega arith)
-more_events start x f mk (Reverts j w d ∷ new) evs k = event_back (trace_for (look x f mk) evs) j (value_written x f w) (content_of x (line x mk) f d.parts) k (more_events start x f mk new evs)
+more_events start x f mk (Reverts j w d ∷ new) evs k = event_back (trace_for (look x f mk) evs) j (value_written x f w) (content_of x (line x mk) f (singles d.parts)) k (more_events start x f mk new evs)
 more_events start x f mk (_ ∷ new) evs k = one_event (trace_for (look x f mk) evs) k (more_events start x f mk new evs)
 
 pub never_fall : PointNeverFalls

@@ -1,5 +1,4 @@
--- The children of a context of a tree of the process, as the process answers them in pre-order, are those that its events
--- tell.
+-- The children of a context, as a process answers them in pre-order, are those that its events tell.
 use Rattle.std.proofs.Common.{◌≡◌, ℕ, ◌+◌, ◌==◌, Bool, true, false, not, ◌&&◌, if◌then◌else◌, Some, List, [], ◌∷◌, ◌++◌, filter, map, length, zero, suc, refl, ap, ap₂, sym, subst, ◌∙◌, cond}
 use Rattle.std.specs.List.{AllByRecursion, list_any}
 use Rattle.std.proofs.lemmas.List.{append-nil}
@@ -31,13 +30,14 @@ use Rattle.trees.specs.Look.{moved}
 use Rattle.trees.specs.Look.Effect.{Stays, Comes}
 use Rattle.trees.specs.Rules.{Keeps}
 use Rattle.trees.specs.Words.{stage, is_held}
-use Rattle.trees.proofs.Taking.{comings_below}
+use Rattle.trees.proofs.Taking.{comings_below, first_new}
 use Rattle.model.specs.Lines.{Making, makings_done, line, above_in, is_among}
 use Rattle.model.specs.Moments.{Moment, ProcessEvent, did_by, events_of, seen_now}
 use Rattle.model.specs.Moments.Written.{Own}
 use Rattle.model.specs.Process.{own_asked}
 use Rattle.model.specs.Process as own
-use Rattle.model.specs.Trees.{comes_if, goes_if, parts_do, parts_make, parts_tell, parts_bring, is_of_its_tabs, tree_look, tree_begin}
+use Rattle.model.specs.Trees.{comes_if, goes_if, parts_do, parts_make, parts_tell, parts_bring, tree_look, tree_begin}
+use Rattle.model.specs.View.{singles}
 use Rattle.model.proofs.AskedMore.{own_asked_more}
 use Rattle.model.proofs.Cases.{by_if, true_false, same_context_is, same_itself}
 use Rattle.model.proofs.Children.{all_join, all_from, filter_of_none}
@@ -52,6 +52,8 @@ use Rattle.model.proofs.Living.{both_stays}
 use Rattle.model.proofs.Ordered.{held_start, held_order_still, framed_new, one_below, went_below}
 use Rattle.model.proofs.Preorder.{Preorder, filter_within, filter_all, filter_twice, all_kept, below_of, is_outside}
 use Rattle.model.proofs.Stages.{IsParents, told_parents, heard_parents, acks_posted, by_acks, acks_do}
+use Rattle.model.proofs.SingleFits.{singles_fit}
+use Rattle.model.proofs.Singles.{taken_single}
 use Rattle.model.proofs.TreeEvents.{until_end, never_ends, waits_same, flows_still}
 use Rattle.model.proofs.TreeLawful.{lawful}
 use Rattle.model.proofs.TreeOwn.{TreeSeen, new_z}
@@ -90,19 +92,19 @@ answers_same mk y s after L xs order holds b = record {
 -- ---- as the events of the process tell it
 
 abbrev pub ChildrenHeld : Config → ℕ → List Making → Seen → List ProcessEvent → Type 0
-ChildrenHeld c p mk s g = (y : ContextId) → is_of_its_tabs c p mk y ≡ true → HeldBelow mk y s (λ x. stage (tree_look c p mk) (tree_begin c p) x g) (came (tree_look c p mk) y g)
+ChildrenHeld c p mk s g = (y : ContextId) → HeldBelow mk y s (λ x. stage (tree_look c p mk) (tree_begin c p mk) x g) (came (tree_look c p mk) y g)
 
 -- so the process's order has them as they stand there
-pub children_held : (c : Config) (p : ℕ) (mk : List Making) (s : Seen) (g : List ProcessEvent) → SeenTies c.tabs p mk s → ChildrenHeld c p mk s g → (y : ContextId) → is_of_its_tabs c p mk y ≡ true
-    → filter (λ x. option_any (same_context y) (s.above x)) s.order ≡ held_below (tree_look c p mk) (tree_begin c p) y g
-children_held c p mk s g t b y mine =
+pub children_held : (c : Config) (p : ℕ) (mk : List Making) (s : Seen) (g : List ProcessEvent) → SeenTies c.tabs p mk s → ChildrenHeld c p mk s g → (y : ContextId)
+    → filter (λ x. option_any (same_context y) (s.above x)) s.order ≡ held_below (tree_look c p mk) (tree_begin c p mk) y g
+children_held c p mk s g t b y =
     filter_within (λ x. option_any (same_context y) (s.above x)) (λ x. option_any (same_context y) (above_in mk x)) s.order
-    (λ x among. ap (option_any (same_context y)) (t.held_above x (sym ((b y mine).order.members x) ∙ among)))
-    ∙ (b y mine).children
+    (λ x among. ap (option_any (same_context y)) (t.held_above x (sym ((b y).order.members x) ∙ among)))
+    ∙ (b y).children
 
 pub held_at_start : (c : Config) (p : ℕ) (mk : List Making) → Lined mk → ChildrenHeld c p mk (seen_now c p []) (until_end (events_of p []))
 unfolding own.order
-held_at_start c p mk l y mine = record {
+held_at_start c p mk l y = record {
   order = held_start c.tabs mk l p;
   children = filter_of_none (λ x. option_any (same_context y) (above_in mk x)) (filter (is_held_at_start c.tabs p) (contexts_of c.tabs)) (all_kept (λ x. option_any (same_context y) (above_in mk x) ≡ false) (is_held_at_start c.tabs p) (contexts_of c.tabs) (tops 1 (length c.tabs)));
   old = tt;
@@ -117,43 +119,34 @@ held_at_start c p mk l y mine = record {
 
 module _ (c : Config) (p : ℕ) (mk : List Making) (l : Lined mk) where
   abbrev stage_of : ContextId → List ProcessEvent → Stage
-  stage_of x g = stage (tree_look c p mk) (tree_begin c p) x g
-
-  mine_below : (x y : ContextId) → above_in mk x ≡ Some y → is_of_its_tabs c p mk y ≡ true → is_of_its_tabs c p mk x ≡ true
-  mine_below x y up mine = ap (is_held_at_start c.tabs p) (l.root_step x y up) ∙ mine
-
-  does_mine : (b : UpBundle) (x : ContextId) → is_of_its_tabs c p mk x ≡ true → (tree_look c p mk).does x (Own b) ≡ parts_do x (line x mk) b.parts
-  does_mine b x mine = ap (λ (v : Bool). if v then parts_do x (line x mk) b.parts else Stays) mine
-
-  came_mine : (b : UpBundle) (y : ContextId) (g : List ProcessEvent) → is_of_its_tabs c p mk y ≡ true → came (tree_look c p mk) y (Writes (Own b) ∷ g) ≡ came (tree_look c p mk) y g ++ parts_make y b.parts
-  came_mine b y g mine = ap (λ (v : Bool). came (tree_look c p mk) y g ++ (if v then parts_make y b.parts else [])) mine
+  stage_of x g = stage (tree_look c p mk) (tree_begin c p mk) x g
 
   -- nothing of a tree
   pub wrote_nothing : (s : Seen) (g : List ProcessEvent) (b : UpBundle) → ((x : ContextId) (ln : List ContextId) → parts_do x ln b.parts ≡ Stays) → ((y : ContextId) → parts_make y b.parts ≡ []) → ChildrenHeld c p mk s g → ChildrenHeld c p mk s (Writes (Own b) ∷ g)
-  wrote_nothing s g b stays none h y mine =
-      subst (HeldBelow mk y s (λ x. stage_of x (Writes (Own b) ∷ g))) (sym (came_mine b y g mine ∙ ap (λ zs. came (tree_look c p mk) y g ++ zs) (none y) ∙ append-nil (came (tree_look c p mk) y g)))
+  wrote_nothing s g b stays none h y =
+      subst (HeldBelow mk y s (λ x. stage_of x (Writes (Own b) ∷ g))) (sym (ap (λ zs. came (tree_look c p mk) y g ++ zs) (none y) ∙ append-nil (came (tree_look c p mk) y g)))
       (stages_same mk y s (λ x. stage_of x g) (λ x. stage_of x (Writes (Own b) ∷ g)) (came (tree_look c p mk) y g)
-      (λ x up. sym (ap (λ d. moved d (stage_of x g)) (does_mine b x (mine_below x y up mine) ∙ stays x (line x mk)))) (h y mine))
+      (λ x up. sym (ap (λ d. moved d (stage_of x g)) (stays x (line x mk)))) (h y))
 
   module _ (s : Seen) (st : SeenTies c.tabs p mk s) (g : List ProcessEvent) (h : ChildrenHeld c p mk s g) where
     -- it makes a frame
-    wrote_frame : (b : UpBundle) (z a : ContextId) → FramedFits p mk s z a → b.parts ≡ ups.Create z a ∷ [] → stage (tree_look c p mk) (tree_begin c p) z g ≡ Coming → ChildrenHeld c p mk (seen_after p (Framed z a) s) (Writes (Own b) ∷ g)
+    wrote_frame : (b : UpBundle) (z a : ContextId) → FramedFits p mk s z a → b.parts ≡ ups.Create z a ∷ [] → stage (tree_look c p mk) (tree_begin c p mk) z g ≡ Coming → ChildrenHeld c p mk (seen_after p (Framed z a) s) (Writes (Own b) ∷ g)
     unfolding seen_after
-    wrote_frame b z a fits is new y mine =
-        subst (HeldBelow mk y (seen_after p (Framed z a) s) (λ x. stage_of x (Writes (Own b) ∷ g))) (sym (came_mine b y g mine ∙ ap (λ zs. came (tree_look c p mk) y g ++ zs) (ap (parts_make y) is)))
+    wrote_frame b z a fits is new y =
+        subst (HeldBelow mk y (seen_after p (Framed z a) s) (λ x. stage_of x (Writes (Own b) ∷ g))) (sym (ap (λ zs. came (tree_look c p mk) y g ++ zs) (ap (parts_make y) is)))
         (stages_same mk y (seen_after p (Framed z a) s) L (λ x. stage_of x (Writes (Own b) ∷ g)) (came (tree_look c p mk) y g ++ added)
-        (λ x up. sym (ap (λ d. moved d (stage_of x g)) (does_mine b x (mine_below x y up mine) ∙ ap (parts_do x (line x mk)) is ∙ both_stays (comes_if (same_context x z))))) now)
+        (λ x up. sym (ap (λ d. moved d (stage_of x g)) (ap (parts_do x (line x mk)) is ∙ both_stays (comes_if (same_context x z))))) now)
       where
         L : ContextId → Stage
-        L x = moved (comes_if (same_context x z)) (stage (tree_look c p mk) (tree_begin c p) x g)
+        L x = moved (comes_if (same_context x z)) (stage (tree_look c p mk) (tree_begin c p mk) x g)
 
         added : List ContextId
         added = if same_context y a then z ∷ [] else []
 
-        before : HeldBelow mk y s (λ x. stage (tree_look c p mk) (tree_begin c p) x g) (came (tree_look c p mk) y g)
-        before = h y mine
+        before : HeldBelow mk y s (λ x. stage (tree_look c p mk) (tree_begin c p mk) x g) (came (tree_look c p mk) y g)
+        before = h y
 
-        held_z : is_held (moved (comes_if (same_context z z)) (stage (tree_look c p mk) (tree_begin c p) z g)) ≡ true
+        held_z : is_held (moved (comes_if (same_context z z)) (stage (tree_look c p mk) (tree_begin c p mk) z g)) ≡ true
         held_z = ap₂ (λ v q. is_held (moved (comes_if v) q)) (same_itself z) new
 
         same_stage : (v : Bool) (u : Stage) → (u ≡ Coming → ⊥) → is_held (moved (comes_if v) u) ≡ is_held u
@@ -168,11 +161,11 @@ module _ (c : Config) (p : ℕ) (mk : List Making) (l : Lined mk) where
         still_old true Held old e = absurd cc
         still_old true Gone old e = absurd cc
 
-        added_held : (v : Bool) → filter (λ x. is_held (moved (comes_if (same_context x z)) (stage (tree_look c p mk) (tree_begin c p) x g))) (if v then z ∷ [] else []) ≡ (if v then z ∷ [] else [])
+        added_held : (v : Bool) → filter (λ x. is_held (moved (comes_if (same_context x z)) (stage (tree_look c p mk) (tree_begin c p mk) x g))) (if v then z ∷ [] else []) ≡ (if v then z ∷ [] else [])
         added_held true = ap (λ (u : Bool). cond u (z ∷ []) []) held_z
         added_held false = refl
 
-        added_old : (v : Bool) → AllByRecursion (λ x. moved (comes_if (same_context x z)) (stage (tree_look c p mk) (tree_begin c p) x g) ≡ Coming → ⊥) (if v then z ∷ [] else [])
+        added_old : (v : Bool) → AllByRecursion (λ x. moved (comes_if (same_context x z)) (stage (tree_look c p mk) (tree_begin c p mk) x g) ≡ Coming → ⊥) (if v then z ∷ [] else [])
         added_old true = ((λ e. true_false (is_held (L z)) held_z (ap is_held e)), tt)
         added_old false = tt
 
@@ -180,7 +173,7 @@ module _ (c : Config) (p : ℕ) (mk : List Making) (l : Lined mk) where
         added_below true e = (fits.made ∙ ap Some (sym (same_context_is y a e)), tt)
         added_below false e = tt
 
-        now : HeldBelow mk y (seen_after p (Framed z a) s) (λ x. moved (comes_if (same_context x z)) (stage (tree_look c p mk) (tree_begin c p) x g)) (came (tree_look c p mk) y g ++ (if same_context y a then z ∷ [] else []))
+        now : HeldBelow mk y (seen_after p (Framed z a) s) (λ x. moved (comes_if (same_context x z)) (stage (tree_look c p mk) (tree_begin c p mk) x g)) (came (tree_look c p mk) y g ++ (if same_context y a then z ∷ [] else []))
         now = record {
           order = held_order_still c.tabs mk l p s (Framed z a) fits st before.order;
           children = one_below c.tabs mk l p s z a y fits.made (framed_new c.tabs mk l p s z a fits st) fits.held st before.order
@@ -192,16 +185,16 @@ module _ (c : Config) (p : ℕ) (mk : List Making) (l : Lined mk) where
 
     -- it drops a context
     wrote_drop : (b : UpBundle) (w : ContextId) → b.parts ≡ ups.Drop w ∷ [] → ChildrenHeld c p mk (seen_after p (Went w) s) (Writes (Own b) ∷ g)
-    wrote_drop b w is y mine =
-        subst (HeldBelow mk y (seen_after p (Went w) s) (λ x. stage_of x (Writes (Own b) ∷ g))) (sym (came_mine b y g mine ∙ ap (λ zs. came (tree_look c p mk) y g ++ zs) (ap (parts_make y) is) ∙ append-nil (came (tree_look c p mk) y g)))
+    wrote_drop b w is y =
+        subst (HeldBelow mk y (seen_after p (Went w) s) (λ x. stage_of x (Writes (Own b) ∷ g))) (sym (ap (λ zs. came (tree_look c p mk) y g ++ zs) (ap (parts_make y) is) ∙ append-nil (came (tree_look c p mk) y g)))
         (stages_same mk y (seen_after p (Went w) s) L (λ x. stage_of x (Writes (Own b) ∷ g)) (came (tree_look c p mk) y g)
-        (λ x up. sym (ap (λ d. moved d (stage_of x g)) (does_mine b x (mine_below x y up mine) ∙ ap (parts_do x (line x mk)) is ∙ both_stays (goes_if (is_among w (line x mk)))))) now)
+        (λ x up. sym (ap (λ d. moved d (stage_of x g)) (ap (parts_do x (line x mk)) is ∙ both_stays (goes_if (is_among w (line x mk)))))) now)
       where
         L : ContextId → Stage
-        L x = moved (goes_if (is_among w (line x mk))) (stage (tree_look c p mk) (tree_begin c p) x g)
+        L x = moved (goes_if (is_among w (line x mk))) (stage (tree_look c p mk) (tree_begin c p mk) x g)
 
-        before : HeldBelow mk y s (λ x. stage (tree_look c p mk) (tree_begin c p) x g) (came (tree_look c p mk) y g)
-        before = h y mine
+        before : HeldBelow mk y s (λ x. stage (tree_look c p mk) (tree_begin c p mk) x g) (came (tree_look c p mk) y g)
+        before = h y
 
         left : (v : Bool) (q : Stage) → (not v && is_held q) ≡ is_held (moved (goes_if v) q)
         left true q = refl
@@ -211,7 +204,7 @@ module _ (c : Config) (p : ℕ) (mk : List Making) (l : Lined mk) where
         still_old false u old e = old e
         still_old true u old e = absurd cc
 
-        now : HeldBelow mk y (seen_after p (Went w) s) (λ x. moved (goes_if (is_among w (line x mk))) (stage (tree_look c p mk) (tree_begin c p) x g)) (came (tree_look c p mk) y g)
+        now : HeldBelow mk y (seen_after p (Went w) s) (λ x. moved (goes_if (is_among w (line x mk))) (stage (tree_look c p mk) (tree_begin c p mk) x g)) (came (tree_look c p mk) y g)
         now = record {
           order = held_order_still c.tabs mk l p s (Went w) tt st before.order;
           children = went_below c.tabs mk l p s w y st before.order ∙ ap (filter (is_outside mk l w)) before.children ∙ filter_twice (is_outside mk l w) (λ x. is_held (stage_of x g)) (came (tree_look c p mk) y g)
@@ -223,54 +216,54 @@ module _ (c : Config) (p : ℕ) (mk : List Making) (l : Lined mk) where
     -- it takes the bundle that waits first
     took : (made : ℕ) (d : Bundle DownBundle) → is_ended g ≡ false → Flows g → IsFirst d (bundles_waiting g) → TreeSeen c p mk s g → DownFits c p mk made d.content.parts
         → ChildrenHeld c p mk (behind_parts c p mk l d.content.epoch.0 made s d.content.parts) (Takes d ∷ g)
-    took made d runs flows first t fits y mine =
-        subst (HeldBelow mk y after (λ x. stage_of x (Takes d ∷ g))) (sym (ap (λ (v : Bool). came (tree_look c p mk) y g ++ (if v then parts_bring y d.content.parts else [])) mine))
-        (stages_same mk y after (λ x. moved (parts_tell x (line x mk) d.content.parts) (stage_of x g)) (λ x. stage_of x (Takes d ∷ g)) (came (tree_look c p mk) y g ++ parts_bring y d.content.parts)
-        (λ x up. sym (ap (λ e. moved e (stage_of x g)) (tells_mine x (mine_below x y up mine)))) (record {
+    took made d runs flows first t fits y =
+        subst (λ q. HeldBelow mk y q (λ x. stage_of x (Takes d ∷ g)) (came (tree_look c p mk) y (Takes d ∷ g))) (taken_single p d.content.epoch.0 d.content.parts s) (record {
           order = done.midway.order;
           children = sym (all_stay (below_of mk y after.order)) ∙ done.below.children;
           old = done.below.old;
           below = done.below.below;
-        }))
+        })
       where
         after : Seen
-        after = behind_parts c p mk l d.content.epoch.0 made s d.content.parts
-
-        tells_mine : (x : ContextId) → is_of_its_tabs c p mk x ≡ true → (tree_look c p mk).tells x d.content ≡ parts_tell x (line x mk) d.content.parts
-        tells_mine x m = ap (λ (v : Bool). if v then parts_tell x (line x mk) d.content.parts else Stays) m
+        after = behind_parts c p mk l d.content.epoch.0 made s (singles d.content.parts)
 
         all_stay : (zs : List ContextId) → filter (λ z. true) zs ≡ zs
         all_stay [] = refl
         all_stay (z ∷ zs) = ap (λ ys. z ∷ ys) (all_stay zs)
 
-        keeps : Keeps (tree_look c p mk) (tree_begin c p) g
+        keeps : Keeps (tree_look c p mk) (tree_begin c p mk) g
         keeps = record { lawful = lawful c p mk l; flows = flows; fits = t.fits }
 
-        come : (x z : ContextId) → is_of_its_tabs c p mk x ≡ true → (x.creator == p + 1) ≡ false → above_in mk x ≡ Some z → parts_tell x (line x mk) d.content.parts ≡ Comes
-            → MayCome c p mk l (λ w. stage (tree_look c p mk) (tree_begin c p) w g) d.content.parts x z
-        come x z m other up comes =
+        come : (x z : ContextId) → (x.creator == p + 1) ≡ false → above_in mk x ≡ Some z → parts_tell x (line x mk) (singles d.content.parts) ≡ Comes
+            → MayCome c p mk l (λ w. stage (tree_look c p mk) (tree_begin c p mk) w g) (singles d.content.parts) x z
+        come x z other up comes =
             let told : (stage_of x g ≡ Held → ⊥)
             × (stage_of x g ≡ Coming → moved ((tree_look c p mk).tells z d.content) (stage_of z g) ≡ Held)
             × (stage_of x g ≡ Gone → moved ((tree_look c p mk).tells z d.content) (stage_of z g) ≡ Held → ⊥) =
-            comings_below (tree_look c p mk) (tree_begin c p) d g keeps runs first x z other up (tells_mine x m ∙ comes) in
-            let same : moved ((tree_look c p mk).tells z d.content) (stage_of z g) ≡ moved (parts_tell z (line z mk) d.content.parts) (stage_of z g) =
-            ap (λ e. moved e (stage_of z g)) (tells_mine z (sym (ap (is_held_at_start c.tabs p) (l.root_step x z up)) ∙ m)) in
-            record { unheld = told.0; new = λ e. sym same ∙ told.1 e; gone = λ e held. told.2 e (same ∙ held) }
+            comings_below (tree_look c p mk) (tree_begin c p mk) d g keeps runs first x z other up comes in
+            record { unheld = told.0; new = told.1; gone = told.2 }
 
-        start : Midway c p mk l s (λ x. stage (tree_look c p mk) (tree_begin c p) x g) d.content.parts
-        start = record { ties = st; order = (h y mine).order; stages = λ x m left. t.stages x m; coming = come }
-
-        start_below : MidwayBelow c p mk l y s (λ x. stage (tree_look c p mk) (tree_begin c p) x g) (came (tree_look c p mk) y g) d.content.parts
-        start_below = record {
-          children =
-              ap (filter (stays mk d.content.parts)) (h y mine).children
-              ∙ filter_twice (stays mk d.content.parts) (λ x. is_held (stage_of x g)) (came (tree_look c p mk) y g);
-          old = (h y mine).old;
-          below = (h y mine).below;
+        start : Midway c p mk l s (λ x. stage (tree_look c p mk) (tree_begin c p mk) x g) (singles d.content.parts)
+        start = record {
+          ties = st;
+          order = (h y).order;
+          stages = λ x left. t.stages x;
+          coming = come;
+          coming_top = λ x other top comes. first_new (tree_look c p mk) (tree_begin c p mk) (lawful c p mk l) x other top d g flows t.fits runs first comes;
         }
 
-        done : Taken c p mk l d.content.epoch.0 made (behind_parts c p mk l d.content.epoch.0 made s d.content.parts) (λ x. moved (parts_tell x (line x mk) d.content.parts) (stage (tree_look c p mk) (tree_begin c p) x g)) y (came (tree_look c p mk) y g ++ parts_bring y d.content.parts)
-        done = taken_all c p mk l d.content.epoch.0 made y d.content.parts s (λ x. stage_of x g) (came (tree_look c p mk) y g) fits.first fits.come fits.apart fits.kinds start start_below
+        start_below : MidwayBelow c p mk l y s (λ x. stage (tree_look c p mk) (tree_begin c p mk) x g) (came (tree_look c p mk) y g) (singles d.content.parts)
+        start_below = record {
+          children =
+              ap (filter (stays mk (singles d.content.parts))) (h y).children
+              ∙ filter_twice (stays mk (singles d.content.parts)) (λ x. is_held (stage_of x g)) (came (tree_look c p mk) y g);
+          old = (h y).old;
+          below = (h y).below;
+        }
+
+        done : Taken c p mk l d.content.epoch.0 made (behind_parts c p mk l d.content.epoch.0 made s (singles d.content.parts)) (λ x. moved (parts_tell x (line x mk) (singles d.content.parts)) (stage (tree_look c p mk) (tree_begin c p mk) x g)) y
+            (came (tree_look c p mk) y g ++ parts_bring y (singles d.content.parts))
+        done = taken_all c p mk l d.content.epoch.0 made y (singles d.content.parts) s (λ x. stage_of x g) (came (tree_look c p mk) y g) fits.first fits.come fits.apart (singles_fit p made d.content.parts fits.kinds) start start_below
 
 -- ---- events of the process and of the parent
 
@@ -339,11 +332,11 @@ module _ (c : Config) (p : ℕ) (ms : List Moment) (m : Moment) (mk : List Makin
 
     wrote_kept : (x : ContextId) (cs : _) → ChildrenHeld c p mk (seen_now c p ms) (until_end (events_of p ms)) → ChildrenHeld c p mk (seen_after p (OwnWrote x cs) (seen_now c p ms)) (until_end (events_of p ms))
     unfolding seen_after
-    wrote_kept x cs b y mine = answers_same mk y s (seen_after p (OwnWrote x cs) s) (λ x. stage (tree_look c p mk) (tree_begin c p) x (until_end (events_of p ms))) (came (tree_look c p mk) y g) refl (λ x. refl) (b y mine)
+    wrote_kept x cs b y = answers_same mk y s (seen_after p (OwnWrote x cs) s) (λ x. stage (tree_look c p mk) (tree_begin c p mk) x (until_end (events_of p ms))) (came (tree_look c p mk) y g) refl (λ x. refl) (b y)
 
     took_kept : (q : Seen) (h : List ProcessEvent) → ChildrenHeld c p mk q h → ChildrenHeld c p mk (seen_after p Took q) h
     unfolding seen_after
-    took_kept q h b y mine = answers_same mk y q (seen_after p Took q) (λ x. stage (tree_look c p mk) (tree_begin c p) x h) (came (tree_look c p mk) y h) refl (λ x. refl) (b y mine)
+    took_kept q h b y = answers_same mk y q (seen_after p Took q) (λ x. stage (tree_look c p mk) (tree_begin c p mk) x h) (came (tree_look c p mk) y h) refl (λ x. refl) (b y)
 
     frame_kept : (a : ContextId) (u : UpBundle) → IsFrame c p ms m a u → Next (m.events p) (m.did p)
     frame_kept a u e =

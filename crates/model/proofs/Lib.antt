@@ -1,5 +1,7 @@
 pub mod AskedMore
 pub mod Cases
+pub mod Singles
+pub mod SingleFits
 pub mod Lining
 pub mod Fitting
 pub mod Holding
@@ -7,10 +9,15 @@ pub mod Entry
 pub mod Living
 pub mod Telling
 pub mod Owning
+pub mod Subscribing
 pub mod Subscribers
 pub mod Posting
 pub mod Arranging
 pub mod TreeLawful
+pub mod Registering
+pub mod AboveFirst
+pub mod OwnTold
+pub mod RegisterFits
 pub mod TreeTold
 pub mod Good
 pub mod TreeEvents
@@ -48,9 +55,11 @@ pub mod FallsSteps
 pub mod Falls
 pub mod RoundsGoes
 pub mod Rounds
+pub mod SinglesOrdered
 pub mod Contents
 pub mod Stages
 pub mod FieldFacts
+pub mod PostedContents
 pub mod Serving
 pub mod FieldBefore
 pub mod FieldFits
@@ -60,8 +69,6 @@ pub mod Taken
 pub mod Counting
 pub mod Shown
 pub mod Numbers
-pub mod Others
-pub mod OthersKept
 pub mod Fields
 pub mod Preorder
 pub mod SameOrder
@@ -79,3 +86,4 @@ pub mod QuietTrees
 pub mod QuietOrder
 pub mod FieldLaws
 pub mod Reverted
+pub mod Comings

@@ -1,9 +1,9 @@
--- What the parent says, told as effects on lives: of the contexts of some trees, those are live that came and
--- didn't go.
-use Rattle.std.proofs.Common.{◌≡◌, ◌⊎◌, inl, inr, ℕ, zero, suc, ◌≤◌, Bool, true, false, ◌||◌, if◌then◌else◌, Option, None, Some, List, [], ◌∷◌, ◌++◌, length, refl, ap, sym, subst, ◌∙◌, arith}
+-- What the parent says, told as effects on lives: those contexts are live that came and didn't go.
+use Rattle.std.proofs.Common.{◌≡◌, ◌⊎◌, inl, inr, ℕ, zero, suc, ◌+◌, ◌≤◌, Bool, true, false, ◌||◌, if◌then◌else◌, Option, None, Some, List, [], ◌∷◌, ◌++◌, length, refl, ap, sym, subst, ◌∙◌, arith}
 use Rattle.std.proofs.Math.Path.{fun_ext}
 use Rattle.std.specs.List.{AllByRecursion}
 use Rattle.fission_ids.specs.declared.context.ContextId.{ContextId}
+use Rattle.fission_ids.specs.declared.group.GroupId.{GroupId}
 use Rattle.fission_ids.specs.Ids.{same_context}
 use Rattle.wire_msgs.specs.declared.config.Config.{Config}
 use Rattle.wire_msgs.specs.declared.config.StartTab.{StartTab}
@@ -20,9 +20,9 @@ use Rattle.model.specs.Lines.{Making, makings_said, line, above_in, root, is_amo
 use Rattle.model.specs.Parent.{asked}
 use Rattle.model.specs.Trees.{comes_if, goes_if, both, says_do}
 use Rattle.model.proofs.AskedMore.{asked_more}
-use Rattle.model.proofs.Cases.{true_false, same_context_is, same_itself, some_is}
+use Rattle.model.proofs.Cases.{true_false, same_context_is, same_itself, some_is, none_some}
 use Rattle.model.proofs.Entry.{FitsOver}
-use Rattle.model.proofs.Fitting.{SayingFits, MadeFits, FactsTies, facts_still}
+use Rattle.model.proofs.Fitting.{SayingFits, MadeFits, OpenedFits, FactsTies, facts_still, told_first}
 use Rattle.model.proofs.Lining.{Lined, IsToldBy, line_top}
 
 -- ---- effects
@@ -148,11 +148,11 @@ root_of mk l w x e = up_the_line mk (λ z. root z mk ≡ root x mk) l (λ y a is
 
 -- ---- lives
 
--- the lives of contexts that pass a test are those that the parent answers; of what it doesn't know none is live,
--- and it's gone only with the one above
-pub record LifeTies (mine : ContextId → Bool) (mk : List Making) (f : Facts) (life : ContextId → Stage) : Type 0 where
-  pub live : (x : ContextId) → mine x ≡ true → is_held (life x) ≡ f.contexts.live x
-  pub unknown : (x : ContextId) → mine x ≡ true → f.contexts.known x ≡ false → (life x ≡ Coming) ⊎ ((a : ContextId) × (above_in mk x ≡ Some a) × (life a ≡ Gone))
+-- the lives of contexts are those that the parent answers; of what it doesn't know none is live, and it's gone only
+-- with the one above
+pub record LifeTies (mk : List Making) (f : Facts) (life : ContextId → Stage) : Type 0 where
+  pub live : (x : ContextId) → is_held (life x) ≡ f.contexts.live x
+  pub unknown : (x : ContextId) → f.contexts.known x ≡ false → (life x ≡ Coming) ⊎ ((a : ContextId) × (above_in mk x ≡ Some a) × (life a ≡ Gone))
 
 -- what a saying does to a context
 abbrev pub says_one : List Making → ContextId → Saying → Effect
@@ -164,7 +164,7 @@ says_more mk x (Made p y a) ys = ap (λ e. both e (says_do x (line x mk) ys)) (s
 says_more mk x (Removed w but) ys = ap (λ e. both e (says_do x (line x mk) ys)) (sym (both_stays (goes_if (is_among w (line x mk)))))
 says_more mk x (_) ys = refl
 
-held_only : (s : Stage) → is_held s ≡ true → s ≡ Held
+pub held_only : (s : Stage) → is_held s ≡ true → s ≡ Held
 held_only Coming e = absurd cc
 held_only Held e = refl
 held_only Gone e = absurd cc
@@ -174,6 +174,23 @@ gone_stays Stays = refl
 gone_stays Comes = refl
 gone_stays Goes = refl
 
+-- ---- what is opened
+
+-- a tab's context is top-level
+pub opened_top : (mk : List Making) (f : Facts) (x : ContextId) (q : ℕ) → Lined mk → OpenedFits f x q → above_in mk x ≡ None
+opened_top mk f x q l fits = l.tabs x (ap (λ (z : ContextId). z.creator) fits.next)
+
+-- and wasn't known
+pub opened_new : (tabs : List StartTab) (mk : List Making) (f : Facts) (x : ContextId) (q : ℕ) → FactsTies tabs mk f → OpenedFits f x q → f.contexts.known x ≡ false
+opened_new tabs mk f x q ft fits = by_known (f.contexts.known x) refl
+  where
+    serial_is : x.serial ≡ f.tabs_made + 1
+    serial_is = ap (λ (z : ContextId). z.serial) fits.next
+
+    by_known : (b : Bool) → f.contexts.known x ≡ b → f.contexts.known x ≡ false
+    by_known false e = e
+    by_known true e = absurd (omega (arith, serial_is, ft.tabs_low x e (ap (λ (z : ContextId). z.creator) fits.next)))
+
 -- ---- a saying more
 
 abbrev made_effect : ContextId → ContextId → Effect
@@ -182,42 +199,51 @@ made_effect x z = both (comes_if (same_context z x)) Stays
 abbrev removed_effect : List Making → ContextId → ContextId → Effect
 removed_effect mk w z = both (goes_if (is_among w (line z mk))) Stays
 
-module _ (tabs : List StartTab) (mine : ContextId → Bool) (mk : List Making) (l : Lined mk) (mine_above : (x a : ContextId) → above_in mk x ≡ Some a → mine x ≡ mine a) where
+module _ (tabs : List StartTab) (mk : List Making) (l : Lined mk) where
   abbrev Ties : Facts → (ContextId → Stage) → Type 0
-  Ties = LifeTies mine mk
+  Ties = LifeTies mk
 
   -- where nothing comes and nothing goes
   life_same : (f g : Facts) (L : ContextId → Stage) → ((x : ContextId) → g.contexts.live x ≡ f.contexts.live x) → ((x : ContextId) → g.contexts.known x ≡ false → f.contexts.known x ≡ false) → Ties f L → Ties g L
-  life_same f g L alive unknown t = record { live = λ x m. t.live x m ∙ sym (alive x); unknown = λ x m e. t.unknown x m (unknown x e) }
+  life_same f g L alive unknown t = record { live = λ x. t.live x ∙ sym (alive x); unknown = λ x e. t.unknown x (unknown x e) }
 
   -- what is new and made in what is live was coming
-  pub was_coming : (f : Facts) (L : ContextId → Stage) (x a : ContextId) → Ties f L → mine x ≡ true → f.contexts.known x ≡ false → above_in mk x ≡ Some a → f.contexts.live a ≡ true → L x ≡ Coming
-  was_coming f L x a t m new up live = by_case (t.unknown x m new)
+  pub was_coming : (f : Facts) (L : ContextId → Stage) (x a : ContextId) → Ties f L → f.contexts.known x ≡ false → above_in mk x ≡ Some a → f.contexts.live a ≡ true → L x ≡ Coming
+  was_coming f L x a t new up live = by_case (t.unknown x new)
     where
       by_case : (L x ≡ Coming) ⊎ ((b : ContextId) × (above_in mk x ≡ Some b) × (L b ≡ Gone)) → L x ≡ Coming
       by_case (inl is) = is
       by_case (inr (b, upper, gone)) =
           let same : a ≡ b = some_is a b (sym up ∙ upper) in
-          let held : is_held (L a) ≡ true = t.live a (sym (mine_above x a up) ∙ m) ∙ live in
+          let held : is_held (L a) ≡ true = t.live a ∙ live in
           let lost : is_held (L a) ≡ false = ap is_held (ap L same ∙ gone) in
           true_false (is_held (L a)) held lost
 
-  life_made : (f : Facts) (L : ContextId → Stage) (p : ℕ) (x a : ContextId) → above_in mk x ≡ Some a → MadeFits f p x a → Ties f L → Ties (facts_after (Made p x a) f) (λ z. moved (says_one mk z (Made p x a)) (L z))
-  unfolding facts_after
-  life_made f L p x a up fits t = record { live = alive; unknown = unknown }
+  -- what is new and top-level was coming
+  pub top_was_coming : (f : Facts) (L : ContextId → Stage) (x : ContextId) → Ties f L → f.contexts.known x ≡ false → above_in mk x ≡ None → L x ≡ Coming
+  top_was_coming f L x t new top = by_case (t.unknown x new)
     where
-      alive : (z : ContextId) → mine z ≡ true → is_held (moved (made_effect x z) (L z)) ≡ (if same_context z x then true else f.contexts.live z)
-      alive z m = by_test (same_context z x) refl
+      by_case : (L x ≡ Coming) ⊎ ((b : ContextId) × (above_in mk x ≡ Some b) × (L b ≡ Gone)) → L x ≡ Coming
+      by_case (inl is) = is
+      by_case (inr (b, upper, gone)) = none_some b (sym top ∙ upper)
+
+  -- one more is live, which was coming
+  life_come : (f g : Facts) (L : ContextId → Stage) (x : ContextId) → ((z : ContextId) → g.contexts.live z ≡ (if same_context z x then true else f.contexts.live z))
+      → ((z : ContextId) → g.contexts.known z ≡ (if same_context z x then true else f.contexts.known z)) → L x ≡ Coming → Ties f L → Ties g (λ z. moved (made_effect x z) (L z))
+  life_come f g L x live_is known_is coming t = record { live = alive; unknown = unknown }
+    where
+      alive : (z : ContextId) → is_held (moved (made_effect x z) (L z)) ≡ g.contexts.live z
+      alive z = by_test (same_context z x) refl ∙ sym (live_is z)
         where
           by_test : (b : Bool) → same_context z x ≡ b → is_held (moved (both (comes_if b) Stays) (L z)) ≡ (if b then true else f.contexts.live z)
           by_test true is =
-              let new : L z ≡ Coming = was_coming f L z a t m (ap f.contexts.known (same_context_is z x is) ∙ fits.new) (ap (above_in mk) (same_context_is z x is) ∙ up) fits.live in
+              let new : L z ≡ Coming = ap L (same_context_is z x is) ∙ coming in
               ap (λ s. is_held (moved Comes s)) new
-          by_test false isnt = t.live z m
+          by_test false isnt = t.live z
 
-      unknown : (z : ContextId) → mine z ≡ true → (if same_context z x then true else f.contexts.known z) ≡ false
+      unknown : (z : ContextId) → g.contexts.known z ≡ false
           → (moved (made_effect x z) (L z) ≡ Coming) ⊎ ((b : ContextId) × (above_in mk z ≡ Some b) × (moved (made_effect x b) (L b) ≡ Gone))
-      unknown z m e = by_test (same_context z x) refl e
+      unknown z e = by_test (same_context z x) refl (sym (known_is z) ∙ e)
         where
           kept : (L z ≡ Coming) ⊎ ((b : ContextId) × (above_in mk z ≡ Some b) × (L b ≡ Gone)) → (L z ≡ Coming) ⊎ ((b : ContextId) × (above_in mk z ≡ Some b) × (moved (made_effect x b) (L b) ≡ Gone))
           kept (inl new) = inl new
@@ -226,7 +252,18 @@ module _ (tabs : List StartTab) (mine : ContextId → Bool) (mk : List Making) (
           by_test : (v : Bool) → same_context z x ≡ v → (if v then true else f.contexts.known z) ≡ false
               → (moved (both (comes_if v) Stays) (L z) ≡ Coming) ⊎ ((b : ContextId) × (above_in mk z ≡ Some b) × (moved (made_effect x b) (L b) ≡ Gone))
           by_test true is e = absurd cc
-          by_test false isnt e = kept (t.unknown z m e)
+          by_test false isnt e = kept (t.unknown z e)
+
+  life_made : (f : Facts) (L : ContextId → Stage) (p : ℕ) (x a : ContextId) → above_in mk x ≡ Some a → MadeFits f p x a → Ties f L
+      → Ties (facts_after (Made p x a) f) (λ z. moved (says_one mk z (Made p x a)) (L z))
+  unfolding facts_after
+  life_made f L p x a up fits t = life_come f (facts_after (Made p x a) f) L x (λ z. refl) (λ z. refl) (was_coming f L x a t fits.new up fits.live) t
+
+  life_opened : (f : Facts) (L : ContextId → Stage) (x : ContextId) (g : GroupId) (is_new : Bool) (q : ℕ) → OpenedFits f x q → FactsTies tabs mk f → Ties f L
+      → Ties (facts_after (Opened x g is_new q) f) (λ z. moved (says_one mk z (Opened x g is_new q)) (L z))
+  unfolding facts_after
+  life_opened f L x g is_new q fits ft t =
+      life_come f (facts_after (Opened x g is_new q) f) L x (λ z. refl) (λ z. refl) (top_was_coming f L x t (opened_new tabs mk f x q ft fits) (opened_top mk f x q l fits)) t
 
   life_removed : (f : Facts) (L : ContextId → Stage) (w : ContextId) (but : Option ℕ) → f.contexts.live w ≡ true → FactsTies tabs mk f → Ties f L → Ties (facts_after (Removed w but) f) (λ z. moved (says_one mk z (Removed w but)) (L z))
   unfolding facts_after
@@ -235,12 +272,12 @@ module _ (tabs : List StartTab) (mine : ContextId → Bool) (mk : List Making) (
       goes_in : (z : ContextId) → is_among w (line z mk) ≡ true → removed_effect mk w z ≡ Goes
       goes_in z e = ap (λ b. both (goes_if b) Stays) e
 
-      alive : (z : ContextId) → mine z ≡ true → is_held (moved (removed_effect mk w z) (L z)) ≡ (if f.contexts.under z w then false else f.contexts.live z)
-      alive z m = by_live (f.contexts.live z) refl
+      alive : (z : ContextId) → is_held (moved (removed_effect mk w z) (L z)) ≡ (if f.contexts.under z w then false else f.contexts.live z)
+      alive z = by_live (f.contexts.live z) refl
         where
           by_line : (b : Bool) → is_among w (line z mk) ≡ b → f.contexts.live z ≡ true → is_held (moved (both (goes_if b) Stays) (L z)) ≡ (if b then false else f.contexts.live z)
           by_line true is on = refl
-          by_line false isnt on = t.live z m
+          by_line false isnt on = t.live z
 
           unheld : (a : Effect) (s : Stage) → (a ≡ Comes → ⊥) → is_held s ≡ false → is_held (moved a s) ≡ false
           unheld Stays s other e = e
@@ -254,11 +291,11 @@ module _ (tabs : List StartTab) (mine : ContextId → Bool) (mk : List Making) (
           by_live : (v : Bool) → f.contexts.live z ≡ v → is_held (moved (removed_effect mk w z) (L z)) ≡ (if f.contexts.under z w then false else f.contexts.live z)
           by_live true on = by_line (is_among w (line z mk)) refl on ∙ ap (λ (u : Bool). if u then false else f.contexts.live z) (sym (ft.live_under z w on))
           by_live false off =
-              unheld (removed_effect mk w z) (L z) (never_comes (is_among w (line z mk))) (t.live z m ∙ off)
+              unheld (removed_effect mk w z) (L z) (never_comes (is_among w (line z mk))) (t.live z ∙ off)
               ∙ sym (ap (λ (u : Bool). if u then false else f.contexts.live z) (ft.dead_under z w off) ∙ off)
 
-      unknown : (z : ContextId) → mine z ≡ true → f.contexts.known z ≡ false → (moved (removed_effect mk w z) (L z) ≡ Coming) ⊎ ((b : ContextId) × (above_in mk z ≡ Some b) × (moved (removed_effect mk w b) (L b) ≡ Gone))
-      unknown z m new = by_line (is_among w (line z mk)) refl
+      unknown : (z : ContextId) → f.contexts.known z ≡ false → (moved (removed_effect mk w z) (L z) ≡ Coming) ⊎ ((b : ContextId) × (above_in mk z ≡ Some b) × (moved (removed_effect mk w b) (L b) ≡ Gone))
+      unknown z new = by_line (is_among w (line z mk)) refl
         where
           kept : (L z ≡ Coming) ⊎ ((b : ContextId) × (above_in mk z ≡ Some b) × (L b ≡ Gone)) → (L z ≡ Coming) ⊎ ((b : ContextId) × (above_in mk z ≡ Some b) × (moved (removed_effect mk w b) (L b) ≡ Gone))
           kept (inl new) = inl new
@@ -270,11 +307,11 @@ module _ (tabs : List StartTab) (mine : ContextId → Bool) (mk : List Making) (
 
           by_line : (v : Bool) → is_among w (line z mk) ≡ v → (moved (both (goes_if v) Stays) (L z) ≡ Coming) ⊎ ((b : ContextId) × (above_in mk z ≡ Some b) × (moved (removed_effect mk w b) (L b) ≡ Gone))
           by_line true is = inr (taken (in_line mk l w z is))
-          by_line false isnt = kept (t.unknown z m new)
+          by_line false isnt = kept (t.unknown z new)
 
   pub life_still : (f : Facts) (L : ContextId → Stage) (y : Saying) → AllByRecursion (IsToldBy mk) (makings_said (y ∷ [])) → SayingFits f y → FactsTies tabs mk f → Ties f L → Ties (facts_after y f) (λ z. moved (says_one mk z y) (L z))
   unfolding facts_after
-  life_still f L (Opened x g is_new p) told fits ft t = absurd fits
+  life_still f L (Opened x g is_new p) told fits ft t = life_opened f L x g is_new p fits ft t
   life_still f L (Made p x a) told fits ft t = life_made f L p x a told.0 fits t
   life_still f L (BornDead p x a) told fits ft t = life_same f (facts_after (BornDead p x a) f) L (λ z. refl) before t
     where
@@ -285,17 +322,12 @@ module _ (tabs : List StartTab) (mine : ContextId → Bool) (mk : List Making) (
           by_test true e = absurd cc
           by_test false e = e
   life_still f L (Removed w but) told fits ft t = life_removed f L w but fits ft t
-  life_still f L (Subscribed p g) told fits ft t = absurd fits
+  life_still f L (Subscribed p g) told fits ft t = life_same f (facts_after (Subscribed p g) f) L (λ z. refl) (λ z e. e) t
   life_still f L (Wrote x c) told fits ft t = life_same f (facts_after (Wrote x c) f) L (λ z. refl) (λ z e. e) t
   life_still f L (Acked p x) told fits ft t = life_same f (facts_after (Acked p x) f) L (λ z. refl) (λ z e. e) t
   life_still f L (Counted p) told fits ft t = life_same f (facts_after (Counted p) f) L (λ z. refl) (λ z e. e) t
   life_still f L (Sent p) told fits ft t = life_same f (facts_after (Sent p) f) L (λ z. refl) (λ z e. e) t
   life_still f L (Ended p cause) told fits ft t = life_same f (facts_after (Ended p cause) f) L (λ z. refl) (λ z e. e) t
-
-  told_one : (y : Saying) (ys : List Saying) → AllByRecursion (IsToldBy mk) (makings_said (y ∷ ys)) → AllByRecursion (IsToldBy mk) (makings_said (y ∷ [])) × AllByRecursion (IsToldBy mk) (makings_said ys)
-  told_one (Made p x a) ys all = ((all.0, tt), all.1)
-  told_one (BornDead p x a) ys all = ((all.0, tt), all.1)
-  told_one (_) ys all = (tt, all)
 
   -- ---- all that is said in an entry
 
@@ -307,14 +339,14 @@ module _ (tabs : List StartTab) (mine : ContextId → Bool) (mk : List Making) (
     pub facts_all : (ys : List Saying) → AllByRecursion (IsToldBy mk) (makings_said ys) → FitsOver c old ys → FactsTies c.tabs mk (asked c.tabs old) → FactsTies c.tabs mk (behind ys)
     facts_all [] told fits ft = ft
     facts_all (y ∷ ys) told fits ft =
-        let parts : AllByRecursion (IsToldBy mk) (makings_said (y ∷ [])) × AllByRecursion (IsToldBy mk) (makings_said ys) = told_one y ys told in
+        let parts : AllByRecursion (IsToldBy mk) (makings_said (y ∷ [])) × AllByRecursion (IsToldBy mk) (makings_said ys) = told_first mk y ys told in
         subst (FactsTies c.tabs mk) (sym (asked_more c.tabs y (ys ++ old))) (facts_still c.tabs mk (behind ys) y l parts.0 fits.0 (facts_all ys parts.1 fits.1 ft))
 
     pub life_all : (L : ContextId → Stage) (ys : List Saying) → AllByRecursion (IsToldBy mk) (makings_said ys) → FitsOver c old ys → FactsTies c.tabs mk (asked c.tabs old) → Ties (asked c.tabs old) L
         → Ties (behind ys) (λ z. moved (says_do z (line z mk) ys) (L z))
     life_all L [] told fits ft t = t
     life_all L (y ∷ ys) told fits ft t =
-        let parts : AllByRecursion (IsToldBy mk) (makings_said (y ∷ [])) × AllByRecursion (IsToldBy mk) (makings_said ys) = told_one y ys told in
+        let parts : AllByRecursion (IsToldBy mk) (makings_said (y ∷ [])) × AllByRecursion (IsToldBy mk) (makings_said ys) = told_first mk y ys told in
         subst (λ g. Ties g (λ z. moved (says_do z (line z mk) (y ∷ ys)) (L z))) (sym (asked_more c.tabs y (ys ++ old)))
         (subst (Ties (facts_after y (behind ys))) (fun_ext (λ z. sym (both_moved (says_one mk z y) (says_do z (line z mk) ys) (L z)) ∙ ap (λ e. moved e (L z)) (sym (says_more mk z y ys))))
         (life_still (behind ys) (λ z. moved (says_do z (line z mk) ys) (L z)) y parts.0 fits.0 (subst (λ ts. FactsTies ts mk (behind ys)) (sym same_tabs) (facts_all ys parts.1 fits.1 ft)) (life_all L ys parts.1 fits.1 ft t)))

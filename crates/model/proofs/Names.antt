@@ -1,6 +1,6 @@
 -- What process p could know of by name so far is known to the parent or is its own, whatever entry comes next. Hence
 -- the makings of its run go together.
-use Rattle.std.proofs.Common.{◌≡◌, ◌⊎◌, inl, inr, ℕ, ◌+◌, ◌-◌, ◌==◌, Bool, true, false, ◌&&◌, if◌then◌else◌, Option, None, Some, is_some, List, [], ◌∷◌, ◌++◌, length, refl, ap, sym, subst, ◌∙◌, arith, eqb-true, append_assoc, append-nil}
+use Rattle.std.proofs.Common.{◌≡◌, ◌⊎◌, inl, inr, ℕ, zero, suc, ◌+◌, ◌-◌, ◌<◌, ◌≤◌, ◌==◌, Bool, true, false, ◌&&◌, if◌then◌else◌, Option, None, Some, is_some, List, [], ◌∷◌, ◌++◌, length, refl, ap, sym, subst, ◌∙◌, arith, eqb-true, append_assoc, append-nil}
 use Rattle.std.specs.Prelude.{nat_lt, slice_get}
 use Rattle.std.specs.List.{AllByRecursion, list_any}
 use Rattle.fission_ids.specs.declared.context.ContextId.{ContextId}
@@ -12,7 +12,6 @@ use Rattle.wire_msgs.specs.declared.config.StartTab.{StartTab}
 use Rattle.wire_msgs.specs.declared.note.FieldNote.{FieldNote}
 use Rattle.wire_msgs.specs.declared.part.DownPart.{DownPart}
 use Rattle.wire_msgs.specs.declared.part.DownPart.TheVariants as downs
-use Rattle.wire_msgs.specs.declared.part.Known.{Known}
 use Rattle.wire_msgs.specs.declared.part.UpPart.{UpPart}
 use Rattle.wire_msgs.specs.declared.part.UpPart.TheVariants as ups
 use Rattle.protocol.specs.Bundle.{bundle_for}
@@ -34,18 +33,17 @@ use Rattle.traces.specs.Event.Event.{Writes, Sends, Takes, Accepts, Reverts, Ign
 use Rattle.traces.specs.Links.{writes_waiting}
 use Rattle.traces.specs.Rules.{Flows}
 use Rattle.model.specs.Lines.{Making, makings_said, makings_done, makings, above_in}
+use Rattle.model.specs.Lines.Making.{Below}
 use Rattle.model.specs.Moments.{Moment, Written, ProcessEvent, said, did_by, events_of, facts_now, seen_now, told, heard, written}
 use Rattle.model.specs.Moments.Written.{Own, Said}
-use Rattle.model.specs.Parent.{asked, known, live}
+use Rattle.model.specs.Parent.{asked, known, live, tabs_made}
 use Rattle.model.specs.Process.{own_asked}
 use Rattle.model.specs.Process as own
-use Rattle.model.proofs.Arranging.{come_all}
 use Rattle.model.proofs.AskedMore.{own_asked_more}
 use Rattle.model.proofs.Cases.{by_if, both_true, same_itself}
-use Rattle.model.proofs.Entry.{Entry, FitsOver, IsOfOthers, Posted, IsSending, IsAcking, IsTake, IsTold, IsKilled, Says, Hearing, HeardLate, HeardCommit}
+use Rattle.model.proofs.Entry.{Entry, FitsOver, IsOfOthers, IsSending, IsAcking, IsTake, IsTold, IsKilled, Says, Hearing, HeardLate, HeardCommit, others_posted}
 use Rattle.model.proofs.Entry.Entry.{Idle, Sets, Frames, Drops, TakesOne, Tells, Killing, HearsOne}
 use Rattle.model.proofs.Entry.Hearing.{AsMade, AsLate, AsDrop, AsOldDrop, AsAcks, AsCommit, AsOldCommit, AsOver}
-use Rattle.model.proofs.Entry.Posted.{NonePosted, OnePosted}
 use Rattle.model.proofs.Fitting.{made_or}
 use Rattle.model.proofs.Naming.{IsNamed, IsAgain, MakingTies, AllNamesFit, named_more, said_all, framed_one, above_still}
 use Rattle.model.proofs.NamesLinks.{PartKnown, PartMade, BundleKnown, WriteMade, NamesWaiting, HoldsMore, DoingKnown, waits_more, waits_write, waits_deed, waits_send, waits_take, waits_accept, waits_ignore, waits_revert, waits_told, waits_heard, waits_written, all_ordered, posts_known, did_all, parts_did, parts_post}
@@ -57,20 +55,15 @@ pub record NameTies (p : ℕ) (f : Facts) (s : Seen) (mk : List Making) (h : Lis
   pub held : (x : ContextId) → s.holds x ≡ true → IsNamed p f s.frames_made x
   pub waits : NamesWaiting p f s.frames_made mk h
 
--- all that a part brings, told in another way
-pub come_known : (f : Facts) (ds : List DownPart) → AllByRecursion (PartKnown f) ds → AllByRecursion (λ (k : Known). f.contexts.known k.context ≡ true) (come_all ds)
-come_known f [] all = tt
-come_known f (downs.Create k ∷ ds) all = (all.0, come_known f ds all.1)
-come_known f (_ ∷ ds) all = come_known f ds all.1
-
 pub names_at_start : (c : Config) (p : ℕ) → NameTies p (facts_now c []) (seen_now c p []) (makings p []) (events_of p [])
-unfolding known live own.holds own.frames_made
+unfolding known live tabs_made own.holds own.frames_made
 names_at_start c p = record {
   ids = record {
     coherent = tt;
     frames = tt;
     named = tt;
     own_known = λ x e own. absurd (omega (arith, sym own ∙ tab x e));
+    tabs_low = λ x e is_tab. low_tab (x.creator == 0 && nat_lt 0 x.serial) x.serial e;
     live_known = λ x e. e;
   };
   held = λ x e. inl (held_live (tab_of c.tabs x) e);
@@ -81,6 +74,15 @@ names_at_start c p = record {
     some_of true o e = refl
     some_of false o e = absurd cc
 
+    within : {A : Type 0} (xs : List A) (i : ℕ) → is_some (slice_get xs i) ≡ true → i < length xs
+    within [] i e = absurd cc
+    within (x ∷ xs) zero e = omega arith
+    within (x ∷ xs) (suc i) e = omega (arith, within xs i e)
+
+    low_tab : (b : Bool) (i : ℕ) → is_some (if b then slice_get c.tabs (i - 1) else None) ≡ true → i ≤ length c.tabs
+    low_tab false i e = absurd cc
+    low_tab true i e = omega (arith, within c.tabs (i - 1) e)
+
     tab : (x : ContextId) → is_live c.tabs x ≡ true → x.creator ≡ 0
     tab x e = eqb-true x.creator 0 (both_true (x.creator == 0) (nat_lt 0 x.serial) (some_of (x.creator == 0 && nat_lt 0 x.serial) (slice_get c.tabs (x.serial - 1)) e)).0
 
@@ -90,14 +92,10 @@ names_at_start c p = record {
 
 -- ---- sayings that fit
 
-all_others : (c : Config) (p : ℕ) (old ys : List Saying) (ds : List DownPart) → Posted c p old ys ds → AllByRecursion (IsOfOthers p) ys
-all_others c p old _ _ NonePosted = tt
-all_others c p old _ _ (OnePosted y ys before ds posted other post) = (other, all_others c p old ys before posted)
-
 module _ (c : Config) (p n : ℕ) (old : List Saying) (mk : List Making) where
   others_fit : (ys : List Saying) → FitsOver c old ys → AllByRecursion (IsOfOthers p) ys → AllNamesFit c p n old mk ys
   others_fit [] fits others = tt
-  others_fit (Opened x g is_new q ∷ ys) fits others = absurd fits.0
+  others_fit (Opened x g is_new q ∷ ys) fits others = (fits.0, others_fit ys fits.1 others.1)
   others_fit (Made q x a ∷ ys) fits others = ((fits.0, inl others.0), others_fit ys fits.1 others.1)
   others_fit (BornDead q x a ∷ ys) fits others = ((fits.0, inl others.0), others_fit ys fits.1 others.1)
   others_fit (_ ∷ ys) fits others = (tt, others_fit ys fits.1 others.1)
@@ -183,7 +181,7 @@ module _ (c : Config) (p : ℕ) (ms : List Moment) (m : Moment) (flows : Flows (
       by_held x (inr known) = inl known
 
   abbrev next_made : ContextId → Making
-  next_made a = record { made = next_frame p s; below = a }
+  next_made a = Below (next_frame p s) a
 
   at_framed : (a : ContextId) (b : UpBundle) (own : DownBundle) → s.holds a ≡ true → b.parts ≡ ups.Create (next_frame p s) a ∷ [] → At [] (Framed (next_frame p s) a ∷ []) (Writes (Own b) ∷ Does own ∷ [])
   unfolding seen_after
@@ -238,7 +236,7 @@ module _ (c : Config) (p : ℕ) (ms : List Moment) (m : Moment) (flows : Flows (
 
   at_told : (posts : List DownPart) → IsTold c p ms m posts → At m.says (m.did p) (m.events p)
   at_told posts e =
-      let fits : AllNamesFit c p n (said ms) mk m.says = others_fit c p n (said ms) mk m.says e.fits (all_others c p (said ms) m.says posts e.posted) in
+      let fits : AllNamesFit c p n (said ms) mk m.says = others_fit c p n (said ms) mk m.says e.fits (others_posted c p (said ms) m.says posts e.posted) in
       let known : AllByRecursion (PartKnown (facts_now c (m ∷ ms))) (in_order posts) = all_ordered (PartKnown (facts_now c (m ∷ ms))) posts (posts_known c p (said ms) m.says posts e.fits e.posted) in
       at_entry m.says [] (told (length ms + 1) m.says (bundle_for (facts_now c (m ∷ ms)) p (in_order posts)) ∷ []) refl e.did e.events
       (at_said m.says fits (told (length ms + 1) m.says (bundle_for (facts_now c (m ∷ ms)) p (in_order posts)) ∷ [])

@@ -1,8 +1,9 @@
 -- Ids that are named in what waits on the links of a process, and in what it takes.
-use Rattle.std.proofs.Common.{◌≡◌, ◌⊎◌, inl, inr, ℕ, ◌+◌, ◌≤◌, Bool, true, false, ◌||◌, if◌then◌else◌, Some, List, [], ◌∷◌, ◌++◌, refl, ap, sym, subst, ◌∙◌, arith}
+use Rattle.std.proofs.Common.{◌≡◌, ◌⊎◌, inl, inr, ℕ, ◌+◌, ◌≤◌, ◌==◌, Bool, true, false, ◌||◌, if◌then◌else◌, Some, List, [], ◌∷◌, ◌++◌, map, filter, refl, ap, sym, subst, ◌∙◌, arith}
 use Rattle.std.specs.Prelude.{nat_lt}
 use Rattle.std.specs.List.{AllByRecursion}
 use Rattle.fission_ids.specs.declared.context.ContextId.{ContextId}
+use Rattle.fission_ids.specs.declared.group.GroupId.{GroupId}
 use Rattle.field_table.specs.Table.{value_in}
 use Rattle.wire_msgs.specs.declared.answer.Answer.{Answer}
 use Rattle.wire_msgs.specs.declared.answer.Answer.TheVariants.{Ended as EndedBy}
@@ -15,13 +16,15 @@ use Rattle.wire_msgs.specs.declared.note.PartNote.{PartNote}
 use Rattle.wire_msgs.specs.declared.note.PartNote.TheVariants as notes
 use Rattle.wire_msgs.specs.declared.part.DownPart.{DownPart}
 use Rattle.wire_msgs.specs.declared.part.DownPart.TheVariants as downs
+use Rattle.wire_msgs.specs.declared.part.Known.{Known}
 use Rattle.wire_msgs.specs.declared.part.UpPart.{UpPart}
 use Rattle.wire_msgs.specs.declared.part.UpPart.TheVariants as ups
 use Rattle.protocol.specs.Bundle.{bundle_for}
 use Rattle.protocol.specs.Fold.{behind_all, after_parts, posts_of}
 use Rattle.protocol.specs.Hear.{frame_known}
 use Rattle.protocol.specs.Order.{down_rank, parts_with, parts_with_all, in_order}
-use Rattle.protocol.specs.Questions.{Facts, is_told}
+use Rattle.protocol.specs.Questions.{Facts, option_any, is_subscribed, is_told}
+use Rattle.protocol.specs.ParentActs.{same_group, known_of, register_of}
 use Rattle.protocol.specs.Sayings.{Saying}
 use Rattle.protocol.specs.Sayings.Saying.{Opened, Made, BornDead, Removed, Wrote as SaysWrote, Acked, Subscribed, Counted, Sent, Ended}
 use Rattle.protocol.specs.Seen.{Seen, Doing}
@@ -29,7 +32,7 @@ use Rattle.protocol.specs.Seen.Doing.{Came, Framed, Went, Wrote, Given, Disowned
 use Rattle.protocol.specs.SeenAfter.{seen_after, with_context}
 use Rattle.protocol.specs.Take.{may_come, note, says, posts, take_rules, bundle_sent}
 use Rattle.traces.specs.Event.{Bundle}
-use Rattle.traces.specs.Event.Event.{Writes, Sends, Takes, Accepts, Reverts, Ignores, Does, Ends}
+use Rattle.traces.specs.Event.Event.{Writes, Sends, Takes, Accepts, Reverts, Ignores, Does}
 use Rattle.traces.specs.Links.{hears, writes_waiting, bundles_waiting}
 use Rattle.traces.specs.Rules.{Flows}
 use Rattle.traces.proofs.Waits.{write_waits, sent_waits, heard_leaves, taken_leaves}
@@ -43,18 +46,20 @@ use Rattle.model.specs.Trees.{says_create}
 use Rattle.model.proofs.AskedMore.{own_asked_more}
 use Rattle.model.proofs.Arranging.{put, put_is}
 use Rattle.model.proofs.Cases.{by_if, same_itself}
-use Rattle.model.proofs.Entry.{FitsOver, IsCommitOf, PostOf, Posted}
+use Rattle.model.proofs.Entry.{FitsOver, IsCommitOf, PostOf, Posted, tab_known}
 use Rattle.model.proofs.Entry.Posted.{NonePosted, OnePosted}
 use Rattle.model.proofs.Fitting.{made_or}
 use Rattle.model.proofs.Naming.{all_map, IsAgain}
+use Rattle.model.proofs.Ordered.{order_known}
 use Rattle.model.proofs.Owning.{known_all, created_known}
+use Rattle.model.proofs.Preorder.{all_kept}
 
 -- ---- what waits
 
 -- a context that comes is known
 abbrev pub PartKnown : Facts → DownPart → Type 0
 PartKnown f (downs.Create k) = f.contexts.known k.context ≡ true
-PartKnown f (downs.Register g contexts) = ⊥
+PartKnown f (downs.Register g contexts) = AllByRecursion (λ (k : Known). f.contexts.known k.context ≡ true) contexts
 PartKnown f part = Unit {0}
 
 abbrev pub BundleKnown : Facts → Bundle DownBundle → Type 0
@@ -75,7 +80,8 @@ pub record NamesWaiting (p : ℕ) (f : Facts) (n : ℕ) (mk : List Making) (h : 
 
 known_more : (f g : Facts) → ((x : ContextId) → f.contexts.known x ≡ true → g.contexts.known x ≡ true) → (d : DownPart) → PartKnown f d → PartKnown g d
 known_more f g more (downs.Create k) known = more k.context known
-known_more f g more (downs.Register i contexts) known = known
+known_more f g more (downs.Register i contexts) known =
+    all_map (λ (k : Known). f.contexts.known k.context ≡ true) (λ (k : Known). g.contexts.known k.context ≡ true) (λ k e. more k.context e) contexts known
 known_more f g more (_) known = tt
 
 made_more : (p n k : ℕ) (mk nk : List Making) → n ≤ k → ((x a : ContextId) → above_in mk x ≡ Some a → above_in nk x ≡ Some a) → (a : UpPart) → PartMade p n mk a → PartMade p k nk a
@@ -113,9 +119,6 @@ module _ (p : ℕ) (f : Facts) (n : ℕ) (mk : List Making) (h : List ProcessEve
         coming = subst (AllByRecursion (BundleKnown f)) (sym (sent_waits bundle h flows)) (all_push (BundleKnown f) (bundles_waiting h) bundle w.coming known);
         makes = w.makes;
       }
-
-  pub waits_end : NamesWaiting p f n mk (Ends ∷ h)
-  waits_end = record { coming = w.coming; makes = w.makes }
 
   pub waits_take : (d : Bundle DownBundle) (rest : List (Bundle DownBundle)) → bundles_waiting h ≡ d ∷ rest → NamesWaiting p f n mk (Takes d ∷ h)
   waits_take d rest first = record {
@@ -185,8 +188,24 @@ all_with P (d ∷ ds) es more all = all_with P ds (parts_with d es) more.1 (subs
 pub all_ordered : (P : DownPart → Type 0) (ds : List DownPart) → AllByRecursion P ds → AllByRecursion P (in_order ds)
 all_ordered P ds all = all_with P ds [] all tt
 
+-- a Register tells of what is in the order
+register_known : (f : Facts) (p : ℕ) (g : GroupId) → AllByRecursion (λ x. f.contexts.known x ≡ true) f.contexts.order → PartKnown f (register_of f p g)
+register_known f p g all =
+    told_of (filter (λ x. option_any (same_group g) (f.contexts.group x)) f.contexts.order)
+    (all_kept (λ x. f.contexts.known x ≡ true) (λ x. option_any (same_group g) (f.contexts.group x)) f.contexts.order all)
+  where
+    told_of : (xs : List ContextId) → AllByRecursion (λ x. f.contexts.known x ≡ true) xs → AllByRecursion (λ (k : Known). f.contexts.known k.context ≡ true) (map (known_of f p) xs)
+    told_of [] all = tt
+    told_of (x ∷ xs) all = (all.0, told_of xs all.1)
+
 post_known : (c : Config) (p : ℕ) (old ys : List Saying) (y : Saying) (ds : List DownPart) → FitsOver c old (y ∷ ys) → PostOf (asked c.tabs (ys ++ old)) p y ds → AllByRecursion (PartKnown (asked c.tabs ((y ∷ ys) ++ old))) ds
-post_known c p old ys (Opened x g is_new q) ds fits post = absurd fits.0
+post_known c p old ys (Opened x g is_new q) ds fits post =
+    subst (AllByRecursion (PartKnown (asked c.tabs ((Opened x g is_new q ∷ ys) ++ old)))) (sym post)
+    (by_if (AllByRecursion (PartKnown (asked c.tabs ((Opened x g is_new q ∷ ys) ++ old)))) (is_subscribed (asked c.tabs (ys ++ old)) p g) (downs.Create (tab_known p x g q) ∷ []) []
+    (λ is. (known, tt)) (λ isnt. tt))
+  where
+    known : (asked c.tabs ((Opened x g is_new q ∷ ys) ++ old)).contexts.known x ≡ true
+    known = created_known c old (Opened x g is_new q ∷ ys) x fits (ap (λ b. b || says_create x ys) (same_itself x))
 post_known c p old ys (Made q x a) ds fits post =
     subst (AllByRecursion (PartKnown (asked c.tabs ((Made q x a ∷ ys) ++ old)))) (sym post)
     (by_if (AllByRecursion (PartKnown (asked c.tabs ((Made q x a ∷ ys) ++ old)))) (is_told (asked c.tabs (ys ++ old)) p a) (downs.Create (frame_known (asked c.tabs (ys ++ old)) x a) ∷ []) [] (λ is. (known, tt)) (λ isnt. tt))
@@ -210,7 +229,13 @@ post_known c p old ys (SaysWrote x t) ds fits post = by_post post
     by_post (inr untold) = none untold.1
 post_known c p old ys (BornDead q x a) ds fits post = subst (AllByRecursion (PartKnown (asked c.tabs ((BornDead q x a ∷ ys) ++ old)))) (sym post) tt
 post_known c p old ys (Acked q x) ds fits post = subst (AllByRecursion (PartKnown (asked c.tabs ((Acked q x ∷ ys) ++ old)))) (sym post) tt
-post_known c p old ys (Subscribed q g) ds fits post = absurd fits.0
+post_known c p old ys (Subscribed q g) ds fits post =
+    subst (AllByRecursion (PartKnown (asked c.tabs ((Subscribed q g ∷ ys) ++ old)))) (sym post)
+    (by_if (AllByRecursion (PartKnown (asked c.tabs ((Subscribed q g ∷ ys) ++ old)))) (q == p) (register_of (asked c.tabs (ys ++ old)) p g ∷ []) [] (λ is. (known, tt)) (λ isnt. tt))
+  where
+    known : PartKnown (asked c.tabs ((Subscribed q g ∷ ys) ++ old)) (register_of (asked c.tabs (ys ++ old)) p g)
+    known = known_more (asked c.tabs (ys ++ old)) (asked c.tabs ((Subscribed q g ∷ ys) ++ old)) (λ x e. known_all c (ys ++ old) (Subscribed q g ∷ []) x e) (register_of (asked c.tabs (ys ++ old)) p g)
+        (register_known (asked c.tabs (ys ++ old)) p g (order_known c.tabs (ys ++ old)))
 post_known c p old ys (Counted q) ds fits post = subst (AllByRecursion (PartKnown (asked c.tabs ((Counted q ∷ ys) ++ old)))) (sym post) tt
 post_known c p old ys (Sent q) ds fits post = subst (AllByRecursion (PartKnown (asked c.tabs ((Sent q ∷ ys) ++ old)))) (sym post) tt
 post_known c p old ys (Ended q cause) ds fits post = subst (AllByRecursion (PartKnown (asked c.tabs ((Ended q cause ∷ ys) ++ old)))) (sym post) tt
@@ -265,9 +290,15 @@ did_all tabs p f old (d ∷ did) known = subst (HoldsMore f (own_asked tabs p ol
         by_last x (inr known) = inr known
 
 module _ (p epoch : ℕ) (f : Facts) (seen : List Doing → Seen) where
+  come_did : (ks : List Known) (did : List Doing) → AllByRecursion (λ (k : Known). f.contexts.known k.context ≡ true) ks → AllByRecursion (DoingKnown f) did
+      → AllByRecursion (DoingKnown f) (behind_all (λ e did. e ∷ did) (map Came ks) did)
+  unfolding behind_all
+  come_did [] did known all = all
+  come_did (k ∷ ks) did known all = come_did ks (Came k ∷ did) known.1 (known.0, all)
+
   part_did : (a : DownPart) (ruled : PartNote) (did : List Doing) → PartKnown f a → AllByRecursion (DoingKnown f) did → AllByRecursion (DoingKnown f) (behind_all (λ e did. e ∷ did) (says a ruled) did)
   unfolding behind_all says
-  part_did (downs.Register g contexts) ruled did known all = absurd known
+  part_did (downs.Register g contexts) ruled did known all = come_did contexts did known all
   part_did (downs.Create k) ruled did known all = (known, all)
   part_did (downs.Commit x t) (notes.Commit y ns) did known all = (tt, all)
   part_did (downs.Commit x t) (_) did known all = all

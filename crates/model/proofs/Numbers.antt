@@ -33,6 +33,7 @@ use Rattle.model.specs.Lines.{Making}
 use Rattle.model.specs.Moments.{Moment, Written, ProcessEvent, said, did_by, events_of, facts_now, seen_now, own_known, deed, told, heard, written}
 use Rattle.model.specs.Moments.Written.{Own, Said}
 use Rattle.model.specs.Parent.{commits_heard}
+use Rattle.model.specs.View.{singles}
 use Rattle.model.specs.Process.{own_asked, commits}
 use Rattle.model.proofs.AskedMore.{own_asked_more}
 use Rattle.model.proofs.Cases.{by_if, true_false, none_some, some_is}
@@ -193,9 +194,6 @@ module _ (c : Config) (p : ℕ) (mk : List Making) (ms : List Moment) (m : Momen
 
     -- ---- all entries
 
-    abbrev Now : Type 0
-    Now = NumbersNext (seen_now c p (m ∷ ms)).commits ((facts_now c (m ∷ ms)).processes.commits_heard p) (m.events p)
-
     turn : (made heard_now : ℕ) (es : List ProcessEvent) → (seen_now c p (m ∷ ms)).commits ≡ made → (facts_now c (m ∷ ms)).processes.commits_heard p ≡ heard_now → m.events p ≡ es → NumbersNext made heard_now es
         → NumbersNext (seen_now c p (m ∷ ms)).commits ((facts_now c (m ∷ ms)).processes.commits_heard p) (m.events p)
     turn made heard_now es e d is r =
@@ -286,7 +284,7 @@ module _ (c : Config) (p : ℕ) (mk : List Making) (ms : List Moment) (m : Momen
         commits_are =
             ap (λ ds. (own_asked c.tabs p (ds ++ did_by p ms)).commits) is.did ∙ ap (λ (z : Seen). z.commits) (own_asked_more c.tabs p Took _)
             ∙ (own_commits p _ (record { creator = 0; serial = 0 }) (record { creator = 0; serial = 0 }) []).3
-            ∙ ap (λ (z : Seen). z.commits) (steps_are c p d.content.epoch.0 (did_by p ms) (seen_now c p ms).frames_made d.content.parts [] kinds) ∙ all_steps c p d.content.epoch.0 d.content.parts (seen_now c p ms)
+            ∙ ap (λ (z : Seen). z.commits) (steps_are c p d.content.epoch.0 (did_by p ms) (seen_now c p ms).frames_made d.content.parts [] kinds) ∙ all_steps c p d.content.epoch.0 (singles d.content.parts) (seen_now c p ms)
     entry_next (Tells posts is) = turn Made0 Heard0 _ (did_none is.did) (others_heard p m.says (said ms) (posted_of_others c p (said ms) m.says posts is.posted)) is.events
         (told_next (in_order posts) Heard0 refl (others_heard p m.says (said ms) (posted_of_others c p (said ms) m.says posts is.posted)) (subst (λ es. Flows (es ++ h)) is.events b.next_flows))
     entry_next (Killing d is) = turn Made0 ((facts_now c (m ∷ ms)).processes.commits_heard p) (Ends ∷ Sends (length ms + 1) (Said m.says) d ∷ []) (did_none is.did) refl is.events

@@ -1,5 +1,5 @@
 -- Who owns what, and what is known, behind what the parent says in one entry.
-use Rattle.std.proofs.Common.{◌≡◌, ◌⊎◌, inl, inr, ℕ, ◌+◌, ◌==◌, Bool, true, false, ◌&&◌, ◌||◌, if◌then◌else◌, Option, None, Some, List, [], ◌∷◌, ◌++◌, refl, ap, sym, subst, ◌∙◌, arith, eqb-true, eq-eqb}
+use Rattle.std.proofs.Common.{◌≡◌, ◌⊎◌, inl, inr, ℕ, ◌+◌, ◌≤◌, ◌==◌, Bool, true, false, ◌&&◌, ◌||◌, if◌then◌else◌, Option, None, Some, List, [], ◌∷◌, ◌++◌, refl, ap, sym, subst, ◌∙◌, arith, eqb-true, eq-eqb}
 use Rattle.std.specs.Prelude.{nat_lt, nat_le}
 use Rattle.std.specs.List.{AllByRecursion}
 use Rattle.fission_ids.specs.declared.context.ContextId.{ContextId}
@@ -17,7 +17,7 @@ use Rattle.model.specs.Trees.{later_hand, hand_if, says_hand, says_create}
 use Rattle.model.proofs.AskedMore.{asked_more}
 use Rattle.model.proofs.Cases.{by_if, true_false, same_context_is}
 use Rattle.model.proofs.Entry.{FitsOver, IsOfOthers}
-use Rattle.model.proofs.Fitting.{SayingFits}
+use Rattle.model.proofs.Fitting.{SayingFits, made_or, frame_creator}
 
 pub later_owned : (a b : Handing) (o : Bool) → owned_behind (later_hand a b) o ≡ owned_behind a (owned_behind b o)
 later_owned Same b o = refl
@@ -53,8 +53,13 @@ IsNoEndOf p y = Unit {0}
 
 pub owner_still : (p : ℕ) (f : Facts) (owned : ContextId → Bool) (y : Saying) → SayingFits f y → IsNoEndOf p y → OwnerTies p f owned → OwnerTies p (facts_after y f) (λ x. owned_behind (hand_one p x y) (owned x))
 unfolding facts_after
-owner_still p f owned (Opened z g is_new q) fits alive t = absurd fits
-owner_still p f owned (Subscribed q g) fits alive t = absurd fits
+owner_still p f owned (Opened z g is_new q) fits alive t = λ x live. by_test x (same_context x z) live
+  where
+    by_test : (x : ContextId) (b : Bool) → (if b then true else f.contexts.live x) ≡ true
+        → owned_behind (later_hand (hand_if b (told_owner (q == p))) Same) (owned x) ≡ option_any (λ r. r == p) (if b then Some q else f.contexts.owner x)
+    by_test x true live = ap (λ h. owned_behind h (owned x)) (later_same (told_owner (q == p))) ∙ owner_is (q == p) (owned x)
+    by_test x false live = t x live
+owner_still p f owned (Subscribed q g) fits alive t = t
 owner_still p f owned (Made q z a) fits alive t = λ x live. by_test x (same_context x z) live
   where
     by_test : (x : ContextId) (b : Bool) → (if b then true else f.contexts.live x) ≡ true
@@ -90,20 +95,6 @@ owner_all c p old owned (y ∷ ys) fits alive t = λ x live.
     (ap (λ (g : Facts). g.contexts.live x) (sym (asked_more c.tabs y (ys ++ old))) ∙ live)
     ∙ ap (λ (g : Facts). is_owner g p x) (sym (asked_more c.tabs y (ys ++ old)))
 
--- the same of those that pass a test
-pub owner_mine : (c : Config) (p : ℕ) (old : List Saying) (mine : ContextId → Bool) (owned : ContextId → Bool) (ys : List Saying) → FitsOver c old ys → AllByRecursion (IsNoEndOf p) ys
-    → ((x : ContextId) → mine x ≡ true → (asked c.tabs old).contexts.live x ≡ true → owned x ≡ is_owner (asked c.tabs old) p x)
-    → (x : ContextId) → mine x ≡ true → (asked c.tabs (ys ++ old)).contexts.live x ≡ true → owned_behind (says_hand p x ys) (owned x) ≡ is_owner (asked c.tabs (ys ++ old)) p x
-owner_mine c p old mine owned ys fits alive t x m live =
-    let guarded : (y : ContextId) → Bool = λ y. if mine y then owned y else is_owner (asked c.tabs old) p y in
-    let at_x : guarded x ≡ owned x = ap (λ (b : Bool). if b then owned x else is_owner (asked c.tabs old) p x) m in
-    ap (owned_behind (says_hand p x ys)) (sym at_x)
-    ∙ owner_all c p old guarded ys fits alive (λ y on. guard y on (mine y) refl) x live
-  where
-    guard : (y : ContextId) → (asked c.tabs old).contexts.live y ≡ true → (b : Bool) → mine y ≡ b → (if b then owned y else is_owner (asked c.tabs old) p y) ≡ is_owner (asked c.tabs old) p y
-    guard y on true is = t y is on
-    guard y on false isnt = refl
-
 -- ---- what is known
 
 known_still : (f : Facts) (y : Saying) (x : ContextId) → f.contexts.known x ≡ true → (facts_after y f).contexts.known x ≡ true
@@ -127,7 +118,11 @@ known_all c old (y ∷ ys) x e = ap (λ (g : Facts). g.contexts.known x) (asked_
 -- what is made is known behind it
 now_known : (f : Facts) (y : Saying) (x : ContextId) → SayingFits f y → says_create x (y ∷ []) ≡ true → (facts_after y f).contexts.known x ≡ true
 unfolding facts_after
-now_known f (Opened z g is_new q) x fits e = absurd fits
+now_known f (Opened z g is_new q) x fits e = by_or (same_context x z) (f.contexts.known x) e
+  where
+    by_or : (b k : Bool) → (b || false) ≡ true → (if b then true else k) ≡ true
+    by_or true k e = refl
+    by_or false k e = absurd cc
 now_known f (Made q z a) x fits e = by_or (same_context x z) (f.contexts.known x) e
   where
     by_or : (b k : Bool) → (b || false) ≡ true → (if b then true else k) ≡ true
@@ -156,18 +151,57 @@ created_known c old (y ∷ ys) x fits e = by_one (create_more x y ys e) (created
     by_one (inl now) rest = ap (λ (g : Facts). g.contexts.known x) (asked_more c.tabs y (ys ++ old)) ∙ now_known (asked c.tabs (ys ++ old)) y x fits.0 now
     by_one (inr before) rest = ap (λ (g : Facts). g.contexts.known x) (asked_more c.tabs y (ys ++ old)) ∙ known_still (asked c.tabs (ys ++ old)) y x (rest before)
 
+-- the tabs' contexts that are known are numbered up to the number of those that were made
+abbrev pub TabsLow : Facts → Type 0
+TabsLow f = (x : ContextId) → f.contexts.known x ≡ true → x.creator ≡ 0 → x.serial ≤ f.tabs_made
+
+pub tabs_low_still : (f : Facts) (y : Saying) → SayingFits f y → TabsLow f → TabsLow (facts_after y f)
+unfolding facts_after
+tabs_low_still f (Opened z g is_new q) fits low = λ x e tab. made_or (λ w. w.creator ≡ 0 → w.serial ≤ f.tabs_made + 1) z x f.contexts.known e
+    (λ top. let serial_is : z.serial ≡ f.tabs_made + 1 = ap (λ (w : ContextId). w.serial) fits.next in omega (arith, serial_is)) (λ was top. omega (arith, low x was top)) tab
+tabs_low_still f (Made q z a) fits low =
+    λ x e tab. made_or (λ w. w.creator ≡ 0 → w.serial ≤ f.tabs_made) z x f.contexts.known e (λ none. absurd (omega (arith, sym none ∙ frame_creator q z fits.frame))) (low x) tab
+tabs_low_still f (BornDead q z a) fits low =
+    λ x e tab. made_or (λ w. w.creator ≡ 0 → w.serial ≤ f.tabs_made) z x f.contexts.known e (λ none. absurd (omega (arith, sym none ∙ frame_creator q z fits.frame))) (low x) tab
+tabs_low_still f (Removed w but) fits low = low
+tabs_low_still f (Wrote z c) fits low = low
+tabs_low_still f (Acked q z) fits low = low
+tabs_low_still f (Subscribed q g) fits low = low
+tabs_low_still f (Counted q) fits low = low
+tabs_low_still f (Sent q) fits low = low
+tabs_low_still f (Ended q cause) fits low = low
+
+pub tabs_low_all : (c : Config) (old ys : List Saying) → FitsOver c old ys → TabsLow (asked c.tabs old) → TabsLow (asked c.tabs (ys ++ old))
+tabs_low_all c old [] fits low = low
+tabs_low_all c old (y ∷ ys) fits low = subst TabsLow (sym (asked_more c.tabs y (ys ++ old))) (tabs_low_still (asked c.tabs (ys ++ old)) y fits.0 (tabs_low_all c old ys fits.1 low))
+
 -- what is made wasn't known
-pub created_new : (c : Config) (old ys : List Saying) (x : ContextId) → FitsOver c old ys → says_create x ys ≡ true → (asked c.tabs old).contexts.known x ≡ true → ⊥
-created_new c old [] x fits e known = absurd cc
-created_new c old (y ∷ ys) x fits e known = by_one y fits.0 (create_more x y ys e) (created_new c old ys x fits.1)
+pub created_new : (c : Config) (old ys : List Saying) (x : ContextId) → TabsLow (asked c.tabs old) → FitsOver c old ys → says_create x ys ≡ true → (asked c.tabs old).contexts.known x ≡ true → ⊥
+created_new c old [] x low fits e known = absurd cc
+created_new c old (y ∷ ys) x low fits e known = by_one y fits.0 (create_more x y ys e) (created_new c old ys x low fits.1)
   where
+    fits_before : FitsOver c old ys
+    fits_before = fits.1
+
     by_saying : (y : Saying) → SayingFits (asked c.tabs (ys ++ old)) y → says_create x (y ∷ []) ≡ true → ⊥
     by_saying (Made q z a) fits e = by_or (same_context x z) refl e
       where
         by_or : (b : Bool) → same_context x z ≡ b → (b || false) ≡ true → ⊥
         by_or true is e = true_false ((asked c.tabs (ys ++ old)).contexts.known z) (subst (λ w. (asked c.tabs (ys ++ old)).contexts.known w ≡ true) (same_context_is x z is) (known_all c old ys x known)) fits.new
         by_or false is e = absurd cc
-    by_saying (Opened z g is_new q) fits e = absurd fits
+    by_saying (Opened z g is_new q) fits e = by_or (same_context x z) refl e
+      where
+        serial_is : z.serial ≡ (asked c.tabs (ys ++ old)).tabs_made + 1
+        serial_is = ap (λ (w : ContextId). w.serial) fits.next
+
+        by_or : (b : Bool) → same_context x z ≡ b → (b || false) ≡ true → ⊥
+        by_or true is e = absurd (omega (
+          arith,
+          serial_is,
+          tabs_low_all c old ys fits_before low z
+              (subst (λ w. (asked c.tabs (ys ++ old)).contexts.known w ≡ true) (same_context_is x z is) (known_all c old ys x known)) (ap (λ (w : ContextId). w.creator) fits.next),
+        ))
+        by_or false is e = absurd cc
     by_saying (_) fits e = absurd cc
 
     by_one : (y : Saying) → SayingFits (asked c.tabs (ys ++ old)) y → (says_create x (y ∷ []) ≡ true) ⊎ (says_create x ys ≡ true) → (says_create x ys ≡ true → (asked c.tabs old).contexts.known x ≡ true → ⊥) → ⊥
@@ -197,7 +231,18 @@ created_by_others c p old (y ∷ ys) x fits others e = by_one (create_more x y y
         by_or true is e =
             other_number x.creator q (ap (λ (w : ContextId). w.creator) (same_context_is x z is) ∙ eqb-true z.creator (q + 1) (first_of_three (z.creator == q + 1) (nat_lt 0 z.serial) (nat_le z.serial 240) fits.frame)) other
         by_or false is e = absurd cc
-    by_saying (Opened z g is_new q) fits other e = absurd fits
+    by_saying (Opened z g is_new q) fits other e = by_or (same_context x z) refl e
+      where
+        no_number : (n : ℕ) → n ≡ 0 → (n == p + 1) ≡ false
+        no_number n e = by_test (n == p + 1) refl
+          where
+            by_test : (b : Bool) → (n == p + 1) ≡ b → (n == p + 1) ≡ false
+            by_test false is = is
+            by_test true is = absurd (omega (arith, sym e ∙ eqb-true n (p + 1) is))
+
+        by_or : (b : Bool) → same_context x z ≡ b → (b || false) ≡ true → (x.creator == p + 1) ≡ false
+        by_or true is e = no_number x.creator (ap (λ (w : ContextId). w.creator) (same_context_is x z is) ∙ ap (λ (w : ContextId). w.creator) fits.next)
+        by_or false is e = absurd cc
     by_saying (_) fits other e = absurd cc
 
     by_one : (says_create x (y ∷ []) ≡ true) ⊎ (says_create x ys ≡ true) → (says_create x ys ≡ true → (x.creator == p + 1) ≡ false) → (x.creator == p + 1) ≡ false
@@ -229,7 +274,11 @@ created_handed c p old x (y ∷ ys) fits e same = by_saying y fits.0 e same (cre
     no_same false h e = absurd cc
 
     by_saying : (y : Saying) → SayingFits (asked c.tabs (ys ++ old)) y → says_create x (y ∷ ys) ≡ true → says_hand p x (y ∷ ys) ≡ Same → (says_create x ys ≡ true → says_hand p x ys ≡ Same → ⊥) → ⊥
-    by_saying (Opened z g is_new q) fits e same rest = absurd fits
+    by_saying (Opened z g is_new q) fits e same rest = by_test (same_context x z) e same
+      where
+        by_test : (b : Bool) → (b || says_create x ys) ≡ true → later_hand (hand_if b (told_owner (q == p))) (says_hand p x ys) ≡ Same → ⊥
+        by_test true e same = no_same (q == p) (says_hand p x ys) same
+        by_test false e same = rest e same
     by_saying (Made q z a) fits e same rest = by_test (same_context x z) e same
       where
         by_test : (b : Bool) → (b || says_create x ys) ≡ true → later_hand (hand_if b (told_owner (q == p))) (says_hand p x ys) ≡ Same → ⊥

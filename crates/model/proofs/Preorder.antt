@@ -1,20 +1,21 @@
 -- Contexts in pre-order, with what the makings tell above each, are a tree: one more goes behind all that is in the one
 -- above it, and is its last child; what goes takes all below it.
-use Rattle.std.proofs.Common.{◌≡◌, ℕ, ◌+◌, ◌-◌, Bool, true, false, not, ◌&&◌, ◌||◌, if◌then◌else◌, Option, None, Some, List, [], ◌∷◌, ◌++◌, length, map, filter, take, drop, is_some, refl, ap, ap₂, sym, subst, ◌∙◌, arith, cond}
-use Rattle.std.specs.Prelude.{insert, slice_get, unwrap_or}
+use Rattle.std.proofs.Common.{◌≡◌, ℕ, zero, suc, ◌+◌, ◌-◌, Bool, true, false, not, ◌&&◌, ◌||◌, if◌then◌else◌, Option, None, Some, List, [], ◌∷◌, ◌++◌, length, map, filter, take, drop, is_some, refl, ap, ap₂, sym, subst, ◌∙◌, arith, cond}
+use Rattle.std.specs.Prelude.{insert, slice_get, unwrap_or, is_none}
 use Rattle.std.proofs.lemmas.Bool.Decides.{nat_tests}
 use Rattle.std.specs.List.{AllByRecursion, IsDistinct, list_any, position_or_len}
 use Rattle.std.specs.Option.{option_map, option_map_or}
 use Rattle.std.proofs.lemmas.List.{append-nil, map-append, take-map, drop-map, length-map}
 use Rattle.fission_ids.specs.declared.context.ContextId.{ContextId}
 use Rattle.fission_ids.specs.Ids.{same_context}
-use Rattle.context_tree.specs.Node.{Node, is_at, is_in, is_child}
+use Rattle.context_tree.specs.Node.{Node, is_at, is_in, is_child, is_top}
 use Rattle.context_tree.specs.Tree.{IsTree, Hangs, TopsRise, are_rising, contexts, node_of, is_held, nodes_after, subtree, children, is_less, line_above}
 use Rattle.context_tree.proofs.Changes.{after_tree, children_after, found_after, without_tree}
 use Rattle.context_tree.proofs.Distinct.{held_among, distinct_cons, distinct_none}
 use Rattle.context_tree.proofs.Lists.{last_places}
 use Rattle.protocol.specs.Questions.{option_any}
 use Rattle.model.specs.Lines.{Making, line, above_in, is_among}
+use Rattle.model.specs.Lines.Making.{Below, Top}
 use Rattle.model.proofs.Cases.{true_false, same_context_is, same_itself}
 use Rattle.model.proofs.Lining.{Lined, line_top}
 
@@ -89,11 +90,19 @@ nodes mk xs = map (node mk) xs
 abbrev pub below_of : List Making → ContextId → List ContextId → List ContextId
 below_of mk y xs = filter (λ x. option_any (same_context y) (above_in mk x)) xs
 
+-- one that is top-level is right below nothing, wherever it goes
+pub below_inserted : (mk : List Making) (y x : ContextId) → above_in mk x ≡ None → (xs : List ContextId) (n : ℕ) → below_of mk y (insert xs n x) ≡ below_of mk y xs
+below_inserted mk y x up [] zero = ap (λ (o : Option ContextId). cond (option_any (same_context y) o) (x ∷ []) []) up
+below_inserted mk y x up [] (suc n) = ap (λ (o : Option ContextId). cond (option_any (same_context y) o) (x ∷ []) []) up
+below_inserted mk y x up (z ∷ xs) zero = ap (λ (o : Option ContextId). cond (option_any (same_context y) o) (x ∷ below_of mk y (z ∷ xs)) (below_of mk y (z ∷ xs))) up
+below_inserted mk y x up (z ∷ xs) (suc n) = ap (λ zs. cond (option_any (same_context y) (above_in mk z)) (z ∷ zs) zs) (below_inserted mk y x up xs n)
+
 pub line_first : (mk : List Making) (x : ContextId) → x ∷ drop 1 (line x mk) ≡ line x mk
 line_first [] x = refl
-line_first (m ∷ mk) x = by_test (same_context x m.made) (line_first mk x)
+line_first (Top y g ∷ mk) x = line_first mk x
+line_first (Below y a ∷ mk) x = by_test (same_context x y) (line_first mk x)
   where
-    by_test : (b : Bool) → x ∷ drop 1 (line x mk) ≡ line x mk → x ∷ drop 1 (if b then x ∷ line m.below mk else line x mk) ≡ (if b then x ∷ line m.below mk else line x mk)
+    by_test : (b : Bool) → x ∷ drop 1 (line x mk) ≡ line x mk → x ∷ drop 1 (if b then x ∷ line a mk else line x mk) ≡ (if b then x ∷ line a mk else line x mk)
     by_test true more = refl
     by_test false more = more
 
@@ -107,6 +116,26 @@ contexts_are mk (x ∷ xs) = ap (λ ys. x ∷ ys) (contexts_are mk xs)
 position_are : (mk : List Making) (a : ContextId) (xs : List ContextId) → position_or_len (is_at a) (nodes mk xs) ≡ position_or_len (same_context a) xs
 position_are mk a [] = refl
 position_are mk a (x ∷ xs) = ap (λ n. cond (not (same_context a x)) (1 + n) 0) (position_are mk a xs)
+
+-- where a test of nodes says what one of contexts says
+position_by : (mk : List Making) (q : Node → Bool) (p : ContextId → Bool) → ((x : ContextId) → q (node mk x) ≡ p x) → (xs : List ContextId) → position_or_len q (nodes mk xs) ≡ position_or_len p xs
+position_by mk q p same [] = refl
+position_by mk q p same (x ∷ xs) = ap₂ (λ (b : Bool) n. cond (not b) (1 + n) 0) (same x) (position_by mk q p same xs)
+
+pub position_within : (p q : ContextId → Bool) (xs : List ContextId) → ((x : ContextId) → list_any (same_context x) xs ≡ true → p x ≡ q x) → position_or_len p xs ≡ position_or_len q xs
+position_within p q [] same = refl
+position_within p q (x ∷ xs) same =
+    ap₂ (λ (b : Bool) n. cond (not b) (1 + n) 0) (same x (ap (λ b. b || list_any (same_context x) xs) (same_itself x)))
+    (position_within p q xs (λ y among. same y (later (same_context y x) (list_any (same_context y) xs) among)))
+  where
+    later : (a b : Bool) → b ≡ true → (a || b) ≡ true
+    later true b e = refl
+    later false b e = e
+
+-- behind the last, where none passes
+pub position_none : (xs : List ContextId) → position_or_len (λ (x : ContextId). false) xs ≡ length xs
+position_none [] = refl
+position_none (x ∷ xs) = omega (arith, position_none xs)
 
 filter_nodes : (mk : List Making) (q : Node → Bool) (p : ContextId → Bool) → ((x : ContextId) → q (node mk x) ≡ p x) → (xs : List ContextId) → filter q (nodes mk xs) ≡ nodes mk (filter p xs)
 filter_nodes mk q p same [] = refl
@@ -201,6 +230,48 @@ module _ (mk : List Making) (l : Lined mk) where
         ∙ children_after (nodes mk xs) o.tree (Some a) x y has_parent
         ∙ ap (λ zs. zs ++ (if same_context y a then x ∷ [] else [])) (children_are y xs)
 
+  -- ---- one more that is top-level
+
+  pub top_node : (x : ContextId) → above_in mk x ≡ None → drop 1 (line x mk) ≡ []
+  top_node x up = ap (drop 1) (line_top x mk up)
+
+  -- where a top-level one goes: before the first that is greater
+  abbrev pub place_of_top : ContextId → List ContextId → ℕ
+  place_of_top x xs = position_or_len (λ y. is_none (above_in mk y) && is_less x y) xs
+
+  top_is : (y : ContextId) → is_top (node mk y) ≡ is_none (above_in mk y)
+  top_is y = by_above (above_in mk y) refl
+    where
+      by_above : (o : Option ContextId) → above_in mk y ≡ o → is_top (node mk y) ≡ is_none o
+      by_above None up = ap (λ zs. is_none (slice_get (drop 1 zs) 0)) (line_top y mk up)
+      by_above (Some a) up = ap (λ zs. is_none (slice_get (drop 1 zs) 0)) (l.line_step y a up ∙ ap (λ zs. y ∷ zs) (sym (line_first mk a)))
+
+  module _ (xs : List ContextId) (is_there : ContextId → Bool) (o : Preorder mk xs is_there) (x : ContextId) (up : above_in mk x ≡ None) (new : is_there x ≡ false) where
+    absent : is_held x (nodes mk xs) ≡ false
+    absent = held_among x (nodes mk xs) ∙ ap (list_any (same_context x)) (contexts_are mk xs) ∙ o.members x ∙ new
+
+    top_attached_is : nodes mk (insert xs (place_of_top x xs) x) ≡ nodes_after None x (nodes mk xs)
+    top_attached_is =
+        insert_nodes mk xs (place_of_top x xs) x
+        ∙ ap₂ (λ n ns. insert (nodes mk xs) n ns)
+        (sym (position_by mk (λ n. is_top n && is_less x n.context) (λ y. is_none (above_in mk y) && is_less x y) (λ y. ap (λ b. b && is_less x y) (top_is y)) xs))
+        (ap (λ zs. record { context = x; above = zs }) (top_node x up))
+
+    pub preorder_with_top : Preorder mk (insert xs (place_of_top x xs) x) (λ z. if same_context z x then true else is_there z)
+    preorder_with_top = record {
+      tree = subst IsTree (sym top_attached_is) (after_tree (nodes mk xs) o.tree None x absent refl);
+      members = λ z.
+          ap (list_any (same_context z)) (sym (contexts_are mk (insert xs (place_of_top x xs) x)))
+          ∙ sym (held_among z (nodes mk (insert xs (place_of_top x xs) x)))
+          ∙ ap (is_held z) top_attached_is
+          ∙ ap is_some (found_after (nodes mk xs) o.tree None x z absent refl)
+          ∙ by_test (same_context z x) z _;
+    }
+      where
+        by_test : (b : Bool) (z : ContextId) (n : Node) → is_some (cond b (Some n) (node_of z (nodes mk xs))) ≡ (if b then true else is_there z)
+        by_test true z n = refl
+        by_test false z n = held_among z (nodes mk xs) ∙ ap (list_any (same_context z)) (contexts_are mk xs) ∙ o.members z
+
   -- ---- what is left
 
   abbrev pub is_outside : ContextId → ContextId → Bool
@@ -228,12 +299,6 @@ module _ (mk : List Making) (l : Lined mk) where
       by_test : (b : Bool) → Rises (filter p xs) → Rises (cond b (x ∷ filter p xs) (filter p xs))
       by_test true more = (all_kept (λ y. is_less x y ≡ true) p xs r.0, more)
       by_test false more = more
-
-  IsTop : ContextId → Type 0
-  IsTop x = above_in mk x ≡ None
-
-  pub top_node : (x : ContextId) → above_in mk x ≡ None → drop 1 (line x mk) ≡ []
-  top_node x up = ap (drop 1) (line_top x mk up)
 
   hang_all : (before : List ContextId) (xs : List ContextId) → AllByRecursion (λ x. above_in mk x ≡ None) xs → Hangs before (nodes mk xs)
   hang_all before [] tops = tt

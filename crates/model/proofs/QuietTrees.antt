@@ -1,28 +1,27 @@
--- An honest process that wasn't ended, with nothing on its links, has the parent's trees.
-use Rattle.std.proofs.Common.{◌≡◌, ℕ, ◌<◌, Bool, true, false, ◌&&◌, Option, List, [], ◌∷◌, map, filter, refl, ap, ap₂, sym, subst, ◌∙◌, arith}
-use Rattle.std.specs.Prelude.{is_some, is_none}
+-- An honest process that wasn't ended, with nothing on its links, holds the parent's contexts that it is told of, as the
+-- parent has them.
+use Rattle.std.proofs.Common.{◌≡◌, ℕ, Bool, true, false, ◌&&◌, List, [], ◌∷◌, map, filter, refl, ap, ap₂, sym, subst, ◌∙◌}
+use Rattle.std.specs.Prelude.{is_some}
 use Rattle.std.specs.List.{AllByRecursion}
 use Rattle.fission_ids.specs.declared.context.ContextId.{ContextId}
 use Rattle.fission_ids.specs.Ids.{same_context}
 use Rattle.wire_msgs.specs.declared.bundle.DownBundle.{DownBundle}
-use Rattle.wire_msgs.specs.declared.cause.EndCause.{EndCause}
 use Rattle.wire_msgs.specs.declared.config.Config.{Config}
 use Rattle.protocol.specs.Questions.{Facts, is_told, option_any}
 use Rattle.protocol.specs.Seen.{Seen}
-use Rattle.protocol.specs.Start.{is_held_at_start}
 use Rattle.traces.specs.Event.{Bundle}
 use Rattle.traces.specs.Links.{is_ended, writes_waiting, bundles_waiting}
 use Rattle.trees.specs.Children.{held_below}
 use Rattle.trees.specs.Rules.{Keeps}
-use Rattle.trees.specs.Words.{stage, life, is_held}
+use Rattle.trees.specs.Words.{stage, is_held}
 use Rattle.trees.specs.Words as words
 use Rattle.model.specs.Laws.{IsAtRest, QuietHoldsTheParents, IsTheSame, QuietSaysTheSame, QuietHasTheSameFrames}
-use Rattle.model.specs.Lines.{Making, makings, root}
+use Rattle.model.specs.Lines.{Making, makings}
 use Rattle.model.specs.Links.{bundles_in, up_waiting, down_waiting, is_nothing}
-use Rattle.model.specs.Moments.{Moment, Written, ProcessEvent, said, events_of, facts_now, seen_now, moments_of}
+use Rattle.model.specs.Moments.{Moment, Written, ProcessEvent, events_of, facts_now, seen_now, moments_of}
 use Rattle.model.specs.Moments.Written.{Own, Raw, Said}
 use Rattle.model.specs.Next.{Run}
-use Rattle.model.specs.Trees.{is_of_its_tabs, tree_look, tree_begin}
+use Rattle.model.specs.Trees.{tree_look, tree_begin}
 use Rattle.model.proofs.Cases.{both_true, true_false}
 use Rattle.model.proofs.Children.{children_live}
 use Rattle.model.proofs.Fitting.{FactsTies}
@@ -36,17 +35,12 @@ use Rattle.model.proofs.TreeEvents.{until_end, all_events}
 use Rattle.model.proofs.TreeFacts.{TreeFacts}
 use Rattle.model.proofs.TreeLawful.{lawful}
 use Rattle.model.proofs.TreeOwn.{TreeSeen}
-use Rattle.model.proofs.TreeTold.{told_alive}
 use Rattle.model.proofs.Ups.{UpFits}
 use Rattle.trees.proofs.Order.{order}
-use Rattle.trees.proofs.Agrees.{existence}
+use Rattle.trees.proofs.Agrees.{existence, nothing_held}
 use Rattle.trees.proofs.Owners.{owners}
 
 -- ---- nothing waits
-
-none_there : {X : Type 0} (xs : List X) → is_nothing xs ≡ true → xs ≡ []
-none_there [] e = refl
-none_there (x ∷ xs) e = absurd cc
 
 none_mapped : {X Y : Type 0} (f : X → Y) (xs : List X) → is_nothing (map f xs) ≡ true → xs ≡ []
 none_mapped f [] e = refl
@@ -77,9 +71,6 @@ module _ (r : Run) (p : ℕ) (rest : IsAtRest r p) where
   abbrev s : Seen
   s = seen_now r.config p (moments_of r.config r.journal)
 
-  pub low : p < 16
-  low = omega (arith, rest.fits.config.few, rest.process)
-
   pub all : Holds r.config p (moments_of r.config r.journal)
   all = holds c p r.journal rest.fits.config.few rest.process rest.fits.steps rest.honest
 
@@ -104,11 +95,14 @@ module _ (r : Run) (p : ℕ) (rest : IsAtRest r p) where
   pub ts : TreeSeen r.config p mk s h
   ts = subst (TreeSeen c p mk s) (all_events h runs) run.trees.seen
 
-  keeps : Keeps (tree_look r.config p mk) (tree_begin r.config p) h
+  keeps : Keeps (tree_look r.config p mk) (tree_begin r.config p mk) h
   keeps = record { lawful = lawful c p mk l; flows = run.flows; fits = tf.fits }
 
-  told : words.is_told (tree_look r.config p mk) (tree_begin r.config p) h ≡ true
-  told = told_alive c p mk h runs
+  -- whether it is told of a context, by its events
+  abbrev pub told : ContextId → Bool
+  told x =
+      words.is_told (tree_look r.config p (makings p (moments_of r.config r.journal))) (tree_begin r.config p (makings p (moments_of r.config r.journal))) x
+      (events_of p (moments_of r.config r.journal))
 
   empty : (is_nothing (up_waiting p (moments_of r.config r.journal)) ≡ true) × (is_nothing (down_waiting p (moments_of r.config r.journal)) ≡ true)
   empty = both_true (is_nothing (up_waiting p ms)) (is_nothing (down_waiting p ms)) rest.quiet
@@ -119,30 +113,35 @@ module _ (r : Run) (p : ℕ) (rest : IsAtRest r p) where
   pub down : bundles_waiting h ≡ []
   down = none_mapped (λ (b : Bundle DownBundle). b.content) (bundles_waiting h) empty.1
 
-  -- in its trees, what is held is live
-  pub held_live : (x : ContextId) → is_of_its_tabs r.config p mk x ≡ true → (seen_now r.config p (moments_of r.config r.journal)).holds x ≡ (facts_now r.config (moments_of r.config r.journal)).contexts.live x
-  held_live x m = sym (ts.stages x m) ∙ existence (tree_look c p mk) (tree_begin c p) h keeps told up down x ∙ tf.lives.live x m
+  -- of what it is told it holds what is live
+  pub held_live : (x : ContextId) → told x ≡ true → (seen_now r.config p (moments_of r.config r.journal)).holds x ≡ (facts_now r.config (moments_of r.config r.journal)).contexts.live x
+  held_live x is = sym (ts.stages x) ∙ existence (tree_look c p mk) (tree_begin c p mk) h keeps up down x is ∙ tf.lives.live x
 
-  pub told_mine : (x : ContextId) → (facts_now r.config (moments_of r.config r.journal)).contexts.known x ≡ true → is_told (facts_now r.config (moments_of r.config r.journal)) p x ≡ is_of_its_tabs r.config p mk x
-  told_mine x known = told_is c.tabs mk (said ms) p x low run.fit ft known ∙ ap (λ (o : Option EndCause). is_none o && is_held_at_start c.tabs p (root x mk)) rest.runs
+  -- and of all else nothing
+  unheld : (x : ContextId) → told x ≡ false → (seen_now r.config p (moments_of r.config r.journal)).holds x ≡ false
+  unheld x isnt = sym (ts.stages x) ∙ ap is_held (nothing_held (tree_look c p mk) (tree_begin c p mk) h keeps runs x isnt)
+
+  pub held_told : (x : ContextId) → (seen_now r.config p (moments_of r.config r.journal)).holds x ≡ true → told x ≡ true
+  held_told x held = by_told (told x) refl
+    where
+      by_told : (v : Bool) → told x ≡ v → told x ≡ true
+      by_told true is = is
+      by_told false isnt = true_false (s.holds x) held (unheld x isnt)
+
+  -- as the parent answers it of what is known
+  pub told_known : (x : ContextId) → (facts_now r.config (moments_of r.config r.journal)).contexts.known x ≡ true → is_told (facts_now r.config (moments_of r.config r.journal)) p x ≡ told x
+  told_known x known = told_is c p mk f x h ft known tf.told
 
   holds_are : (x : ContextId) → (seen_now r.config p (moments_of r.config r.journal)).holds x ≡ ((facts_now r.config (moments_of r.config r.journal)).contexts.live x && is_told (facts_now r.config (moments_of r.config r.journal)) p x)
   holds_are x = by_live (f.contexts.live x) refl
     where
-      unheld : is_of_its_tabs r.config p mk x ≡ false → (seen_now r.config p (moments_of r.config r.journal)).holds x ≡ false
-      unheld other = by_held (s.holds x) refl
-        where
-          by_held : (v : Bool) → (seen_now r.config p (moments_of r.config r.journal)).holds x ≡ v → (seen_now r.config p (moments_of r.config r.journal)).holds x ≡ false
-          by_held false e = e
-          by_held true e = true_false (is_of_its_tabs c p mk x) (st.held_root x e) other
-
-      by_mine : (v w : Bool) → (facts_now r.config (moments_of r.config r.journal)).contexts.live x ≡ v → is_of_its_tabs r.config p mk x ≡ w → (seen_now r.config p (moments_of r.config r.journal)).holds x ≡ (v && w)
-      by_mine v true live m = held_live x m ∙ live ∙ and_true v
+      by_told : (v w : Bool) → (facts_now r.config (moments_of r.config r.journal)).contexts.live x ≡ v → told x ≡ w → (seen_now r.config p (moments_of r.config r.journal)).holds x ≡ (v && w)
+      by_told v true live is = held_live x is ∙ live ∙ and_true v
         where
           and_true : (v : Bool) → v ≡ (v && true)
           and_true true = refl
           and_true false = refl
-      by_mine v false live m = unheld m ∙ and_false v
+      by_told v false live isnt = unheld x isnt ∙ and_false v
         where
           and_false : (v : Bool) → false ≡ (v && false)
           and_false true = refl
@@ -150,29 +149,28 @@ module _ (r : Run) (p : ℕ) (rest : IsAtRest r p) where
 
       by_live : (v : Bool) → (facts_now r.config (moments_of r.config r.journal)).contexts.live x ≡ v
           → (seen_now r.config p (moments_of r.config r.journal)).holds x ≡ ((facts_now r.config (moments_of r.config r.journal)).contexts.live x && is_told (facts_now r.config (moments_of r.config r.journal)) p x)
-      by_live true live = by_mine true (is_of_its_tabs c p mk x) live refl ∙ sym (ap₂ (λ a b. a && b) live (told_mine x (ft.live_known x live)))
-      by_live false dead = by_mine false (is_of_its_tabs c p mk x) dead refl ∙ sym (ap (λ a. a && is_told f p x) dead)
+      by_live true live = by_told true (told x) live refl ∙ sym (ap₂ (λ a b. a && b) live (told_known x (ft.live_known x live)))
+      by_live false dead = by_told false (told x) dead refl ∙ sym (ap (λ a. a && is_told f p x) dead)
 
   same_of : (x : ContextId) → (seen_now r.config p (moments_of r.config r.journal)).holds x ≡ true → IsTheSame (facts_now r.config (moments_of r.config r.journal)) p (seen_now r.config p (moments_of r.config r.journal)) x
   same_of x held =
-      let mine : is_of_its_tabs c p mk x ≡ true = st.held_root x held in
-      let live : f.contexts.live x ≡ true = sym (held_live x mine) ∙ held in
-      let is_held_now : is_held (stage (tree_look c p mk) (tree_begin c p) x h) ≡ true = ts.stages x mine ∙ held in
+      let is : told x ≡ true = held_told x held in
+      let live : f.contexts.live x ≡ true = sym (held_live x is) ∙ held in
+      let is_held_now : is_held (stage (tree_look c p mk) (tree_begin c p mk) x h) ≡ true = ts.stages x ∙ held in
       record {
         group = st.held_group x held ∙ sym (ft.known_group x (ft.live_known x live));
         above = st.held_above x held ∙ sym (ft.known_above x (ft.live_known x live));
-        owns = ts.owners x mine held ∙ owners (tree_look c p mk) (tree_begin c p) h keeps told up down x is_held_now ∙ tf.owners x mine live;
+        owns = ts.owners x held ∙ owners (tree_look c p mk) (tree_begin c p mk) h keeps up down x is is_held_now ∙ tf.owners x live;
       }
 
   frames_are : (y : ContextId) → (seen_now r.config p (moments_of r.config r.journal)).holds y ≡ true
       → filter (λ x. option_any (same_context y) ((seen_now r.config p (moments_of r.config r.journal)).above x)) (seen_now r.config p (moments_of r.config r.journal)).order
       ≡ filter (λ x. option_any (same_context y) ((facts_now r.config (moments_of r.config r.journal)).contexts.above x)) (facts_now r.config (moments_of r.config r.journal)).contexts.order
   frames_are y held =
-      let mine : is_of_its_tabs c p mk y ≡ true = st.held_root y held in
-      children_held c p mk s (until_end h) st run.held y mine
-      ∙ ap (held_below (tree_look c p mk) (tree_begin c p) y) (all_events h runs)
-      ∙ order (tree_look c p mk) (tree_begin c p) h keeps told up down y
-      ∙ sym (children_live c p mk f h ft (run.live runs) y mine)
+      children_held c p mk s (until_end h) st run.held y
+      ∙ ap (held_below (tree_look c p mk) (tree_begin c p mk) y) (all_events h runs)
+      ∙ order (tree_look c p mk) (tree_begin c p mk) h keeps up down y (held_told y held)
+      ∙ sym (children_live c p mk f h ft (run.live runs) y)
 
 pub holds_the_parents : QuietHoldsTheParents
 holds_the_parents r p x rest = holds_are r p rest x

@@ -26,7 +26,6 @@ use Rattle.protocol.specs.Bundle.{Ruling, after_sending, ruling, is_counted, env
 use Rattle.protocol.specs.ParentActs as parent
 use Rattle.protocol.specs.ParentActs.{done_ruling, action_ruling}
 use Rattle.protocol.specs.OwnActs as acting
-use Rattle.protocol.specs.OwnActs.{action_step}
 use Rattle.protocol.specs.Take as take
 use Rattle.protocol.specs.Take.{bundle_sent}
 use Rattle.traces.specs.Event.{Bundle}

@@ -1,5 +1,5 @@
 -- As a process takes the bundle that reverts its newest write, it shows the parent's value at the entry that sent it.
-use Rattle.std.proofs.Common.{◌≡◌, ℕ, ◌<◌, length, Bool, true, false, if◌then◌else◌, Option, None, Some, List, [], ◌∷◌, ◌++◌, refl, ap, sym, subst, ◌∙◌, not, ◌&&◌, ◌==◌, eq-eqb}
+use Rattle.std.proofs.Common.{◌≡◌, ℕ, ◌<◌, length, Bool, true, false, if◌then◌else◌, Option, None, Some, List, [], ◌∷◌, ◌++◌, map, refl, ap, sym, subst, ◌∙◌, not, ◌&&◌, ◌==◌, eq-eqb}
 use Rattle.std.specs.Prelude.{unwrap_or, nat_lt}
 use Rattle.std.specs.List.{AllByRecursion, list_any}
 use Rattle.fission_ids.specs.declared.context.ContextId.{ContextId}
@@ -13,6 +13,7 @@ use Rattle.wire_msgs.specs.declared.bundle.UpBundle.{UpBundle}
 use Rattle.wire_msgs.specs.declared.config.Config.{Config}
 use Rattle.wire_msgs.specs.declared.part.DownPart.{DownPart}
 use Rattle.wire_msgs.specs.declared.part.DownPart.TheVariants as downs
+use Rattle.wire_msgs.specs.declared.part.Known.{Known}
 use Rattle.wire_msgs.specs.declared.part.UpPart.{UpPart}
 use Rattle.wire_msgs.specs.declared.part.UpPart.TheVariants as ups
 use Rattle.journal.specs.declared.entry.Step.TheVariants.{Take}
@@ -36,22 +37,26 @@ use Rattle.model.specs.Moments.Written.{Own}
 use Rattle.model.specs.Process.{own_asked}
 use Rattle.model.specs.View.{value_in_parts}
 use Rattle.model.proofs.DownFits.{PartFits, DownFits}
-use Rattle.model.proofs.Run.{RunTies, seen_of_run}
-use Rattle.model.proofs.RunHolds.{Holds, holds, own_run, own_lined}
+use Rattle.model.proofs.Living.{held_only}
+use Rattle.model.proofs.Run.{RunTies}
+use Rattle.model.proofs.RunHolds.{Holds, holds, own_run}
 use Rattle.model.specs.Laws.{RunFits, RevertTakenShowsTheParent}
 use Rattle.model.specs.Next.{Run, run_with}
 use Rattle.model.specs.View.{is_honest, all_own, begin, look, trace, view, value_at, first_sent}
 use Rattle.wire_msgs.specs.declared.refusal.Refusal.TheVariants as refusals
-use Rattle.model.specs.Trees.{is_of_its_tabs}
 use Rattle.model.proofs.FieldBefore.{stage_until}
-use Rattle.model.proofs.Holding.{SeenTies}
 use Rattle.traces.specs.Rules.{Keeps}
 use Rattle.traces.specs.Words.Stage.{Held}
 use Rattle.traces.proofs.Quiet.{shows_the_view, revert_taken}
 use Rattle.model.proofs.Cases.{by_if}
 use Rattle.model.proofs.Stages.{acks_posted, by_acks}
-use Rattle.model.proofs.FieldLaws.{rest_keeps, reverted_then, trace_keeps, run_holds, is_held_only}
+use Rattle.model.proofs.FieldLaws.{rest_keeps, reverted_then, trace_keeps, run_holds}
 use Rattle.model.proofs.Entry.{IsAck}
+
+coming_makes : (ks : List Known) (acc : List Doing) → makings_done acc ≡ [] → makings_done (behind_all (λ e did. e ∷ did) (map Came ks) acc) ≡ []
+unfolding behind_all
+coming_makes [] acc none = none
+coming_makes (k ∷ ks) acc none = coming_makes ks (Came k ∷ acc) none
 
 -- what is taken makes nothing
 take_makes : (c : Config) (p epoch made : ℕ) (old : List Doing) (parts : List DownPart) → AllByRecursion (PartFits p made) parts → (acc : List Doing) → makings_done acc ≡ []
@@ -68,6 +73,7 @@ take_makes c p epoch made old (downs.Commit x d ∷ parts) kinds acc none = by_h
         (behind_all (λ e did. e ∷ did) (take.says (downs.Commit x d) (if v then notes.Commit x (taken_notes epoch (own_asked c.tabs p (acc ++ old)) x d) else notes.CommitIgnored x)) acc) parts) ≡ []
     by_held true rest = rest (Given x (changes_where (is_noted is_applied (taken_notes epoch (own_asked c.tabs p (acc ++ old)) x d)) d) ∷ acc) none
     by_held false rest = rest acc none
+take_makes c p epoch made old (downs.Register g ks ∷ parts) kinds acc none = take_makes c p epoch made old parts kinds.1 (behind_all (λ e did. e ∷ did) (map Came ks) acc) (coming_makes ks acc none)
 take_makes c p epoch made old (downs.Kill ∷ parts) kinds acc none = take_makes c p epoch made old parts kinds.1 (Stopped ∷ acc) none
 take_makes c p epoch made old (_ ∷ parts) kinds acc none = absurd kinds.0
 
@@ -185,11 +191,9 @@ stage_behind : (r : Run) (p : ℕ) (x : ContextId) (f : Field) → RunFits r →
 stage_behind r p x f fits lt honest held =
     let t : Holds r.config p (moments_of r.config r.journal) = run_holds r p fits lt honest in
     let run : RunTies r.config p (makings p (moments_of r.config r.journal)) (moments_of r.config r.journal) = own_run r.config p r.journal t in
-    let st : SeenTies r.config.tabs p (makings p (moments_of r.config r.journal)) (seen_now r.config p (moments_of r.config r.journal)) = seen_of_run r.config p (makings p (moments_of r.config r.journal)) (moments_of r.config r.journal) (own_lined r.config p r.journal t) run in
-    let mine : is_of_its_tabs r.config p (makings p (moments_of r.config r.journal)) x ≡ true = st.held_root x held in
-    (run.fields.own x f mine).ties.stages
+    (run.fields.own x f).ties.stages
     ∙ sym (stage_until r.config p (makings p (moments_of r.config r.journal)) x (events_of p (moments_of r.config r.journal)))
-    ∙ is_held_only _ (run.trees.seen.stages x mine ∙ held)
+    ∙ held_only _ (run.trees.seen.stages x ∙ held)
 
 pub revert_shows : RevertTakenShowsTheParent
 unfolding view moments_of

@@ -1,6 +1,6 @@
 -- All that holds behind the entries of a journal, for a process that is honest: by recursion on the entries, and for all
 -- makings that go on those so far.
-use Rattle.std.proofs.Common.{◌≡◌, ◌⊎◌, inl, inr, ℕ, ◌+◌, ◌<◌, Bool, true, false, if◌then◌else◌, Option, None, Some, List, [], ◌∷◌, ◌++◌, length, refl, ap, sym, subst, ◌∙◌}
+use Rattle.std.proofs.Common.{◌≡◌, ◌⊎◌, inl, inr, ℕ, ◌+◌, ◌<◌, Bool, true, false, if◌then◌else◌, Option, None, Some, List, [], ◌∷◌, ◌++◌, length, map, refl, ap, sym, subst, ◌∙◌}
 use Rattle.std.specs.Prelude.{is_some}
 use Rattle.std.specs.List.{AllByRecursion}
 use Rattle.wire_msgs.specs.declared.bundle.DownBundle.{DownBundle}
@@ -10,10 +10,11 @@ use Rattle.wire_msgs.specs.declared.config.Config.{Config}
 use Rattle.wire_msgs.specs.declared.note.PartNote.TheVariants as notes
 use Rattle.wire_msgs.specs.declared.part.DownPart.{DownPart}
 use Rattle.wire_msgs.specs.declared.part.DownPart.TheVariants as downs
+use Rattle.wire_msgs.specs.declared.part.Known.{Known}
 use Rattle.protocol.specs.Fold.{after_parts, behind_all}
 use Rattle.protocol.specs.OwnActs.{next_frame}
 use Rattle.protocol.specs.Sayings.{Saying}
-use Rattle.protocol.specs.Sayings.Saying.{Made, BornDead}
+use Rattle.protocol.specs.Sayings.Saying.{Opened, Made, BornDead}
 use Rattle.protocol.specs.Seen.{Doing}
 use Rattle.protocol.specs.Seen.Doing.{Came, Framed, Went, Wrote as OwnWrote, Given, Took, Stopped}
 use Rattle.protocol.specs.Hear.{changes_where, is_noted, is_applied}
@@ -24,11 +25,12 @@ use Rattle.traces.specs.Event.Event.{Writes}
 use Rattle.traces.specs.Links.{is_ended, bundles_waiting}
 use Rattle.traces.specs.Rules.{Flows, Rises}
 use Rattle.model.specs.Lines.{Making, makings_said, makings_done}
+use Rattle.model.specs.Lines.Making.{Below, Top}
 use Rattle.model.specs.Moments.{Moment, ProcessEvent, said, did_by, events_of, facts_now, seen_now}
 use Rattle.model.specs.Moments.Written.{Own, Raw}
 use Rattle.model.specs.Parent.{ended}
 use Rattle.model.specs.Process.{own_asked, running}
-use Rattle.model.specs.View.{all_own}
+use Rattle.model.specs.View.{all_own, singles}
 use Rattle.model.proofs.Arranging.{come_all}
 use Rattle.model.proofs.Backs.{BackFits, entry_backs}
 use Rattle.model.proofs.Stopping.{Stops}
@@ -48,6 +50,8 @@ use Rattle.model.proofs.Fitting.{AllFit, FactsTies, facts_tied}
 use Rattle.model.proofs.HeldChildren.{ChildrenHeld, held_at_start, held_kept}
 use Rattle.model.proofs.Holding.{SeenTies, AllDone, seen_tied}
 use Rattle.model.proofs.Lining.{Lined, IsToldBy}
+use Rattle.model.proofs.Ordered.{parent_in_order}
+use Rattle.model.proofs.OwnTold.{own_told}
 use Rattle.model.proofs.TreeEvents.{until_end}
 use Rattle.model.proofs.TreeParents.{Behind, ended_before, told_runs}
 use Rattle.model.proofs.TreeStart.{trees_start}
@@ -72,8 +76,9 @@ all_both P (x ∷ xs) ys all more = (all.0, all_both P xs ys all.1 more)
 
 makings_all : (ys old : List Saying) → makings_said (ys ++ old) ≡ makings_said ys ++ makings_said old
 makings_all [] old = refl
-makings_all (Made q x a ∷ ys) old = ap (λ ms. record { made = x; below = a } ∷ ms) (makings_all ys old)
-makings_all (BornDead q x a ∷ ys) old = ap (λ ms. record { made = x; below = a } ∷ ms) (makings_all ys old)
+makings_all (Opened x g is_new q ∷ ys) old = ap (λ ms. Top x g ∷ ms) (makings_all ys old)
+makings_all (Made q x a ∷ ys) old = ap (λ ms. Below x a ∷ ms) (makings_all ys old)
+makings_all (BornDead q x a ∷ ys) old = ap (λ ms. Below x a ∷ ms) (makings_all ys old)
 makings_all (_ ∷ ys) old = makings_all ys old
 
 fit_all : (c : Config) (old ys : List Saying) → FitsOver c old ys → AllFit c.tabs old → AllFit c.tabs (ys ++ old)
@@ -94,12 +99,25 @@ own_before (_ ∷ es) h e = own_before es h e
 
 -- ---- what is done fits
 
+-- what comes at once and what comes behind it
+come_both : (P : Known → Type 0) (ks : List Known) (parts : List DownPart) → AllByRecursion P (come_all (map (λ (k : Known). downs.Create k) ks ++ parts)) → AllByRecursion P ks × AllByRecursion P (come_all parts)
+come_both P [] parts all = (tt, all)
+come_both P (k ∷ ks) parts all = let rest : AllByRecursion P ks × AllByRecursion P (come_all parts) = come_both P ks parts all.1 in ((all.0, rest.0), rest.1)
+
 module _ (c : Config) (p : ℕ) (mk : List Making) (old : List Doing) where
-  take_done : (epoch made : ℕ) (parts : List DownPart) → AllByRecursion (ComingFits c p mk) (come_all parts) → AllByRecursion (PartFits p made) parts → (acc : List Doing) → AllDone c.tabs p mk (acc ++ old)
+  come_done : (ks : List Known) → AllByRecursion (ComingFits c p mk) ks → (acc : List Doing) → AllDone c.tabs p mk (acc ++ old) → AllDone c.tabs p mk (behind_all (λ e did. e ∷ did) (map Came ks) acc ++ old)
+  unfolding behind_all
+  come_done [] all acc done = done
+  come_done (k ∷ ks) all acc done = come_done ks all.1 (Came k ∷ acc) (all.0.known, done)
+
+  take_done : (epoch made : ℕ) (parts : List DownPart) → AllByRecursion (ComingFits c p mk) (come_all (singles parts)) → AllByRecursion (PartFits p made) parts → (acc : List Doing) → AllDone c.tabs p mk (acc ++ old)
       → AllDone c.tabs p mk (after_parts (take_rules p epoch) (λ did. own_asked c.tabs p (did ++ old)) (λ e did. e ∷ did) acc parts ++ old)
   unfolding after_parts behind_all take.says take.note
   take_done epoch made [] come kinds acc done = done
   take_done epoch made (downs.Create k ∷ parts) come kinds acc done = take_done epoch made parts come.1 kinds.1 (Came k ∷ acc) (come.0.known, done)
+  take_done epoch made (downs.Register g ks ∷ parts) come kinds acc done =
+      let both : AllByRecursion (ComingFits c p mk) ks × AllByRecursion (ComingFits c p mk) (come_all (singles parts)) = come_both (ComingFits c p mk) ks (singles parts) come in
+      take_done epoch made parts both.1 kinds.1 (behind_all (λ e did. e ∷ did) (map Came ks) acc) (come_done ks both.0 acc done)
   take_done epoch made (downs.Discard w ∷ parts) come kinds acc done = take_done epoch made parts come kinds.1 (Went w ∷ acc) (tt, done)
   take_done epoch made (downs.Commit x d ∷ parts) come kinds acc done = by_held ((own_asked c.tabs p (acc ++ old)).holds x) (take_done epoch made parts come kinds.1)
     where
@@ -147,7 +165,7 @@ run_start c p mk l = record {
   told = tt;
   fit = tt;
   done = tt;
-  trees = trees_start c p mk l;
+  trees = trees_start c p mk;
   flows = tt;
   over = refl;
   downs = downs_start c p mk;
@@ -205,7 +223,7 @@ module _ (c : Config) (p : ℕ) (mk : List Making) (l : Lined mk) (low : p < 16)
     st' = seen_tied c.tabs p mk (did_by p (m ∷ ms)) l (done_next e)
 
     then_is : Behind c p mk ms m
-    then_is = behind c p mk l low ms m ft r.fit told_by told_did r.flows r.over st st' r.downs r.trees e
+    then_is = behind c p mk l low ms m ft r.fit told_by told_did r.flows r.over st st' r.downs r.trees r.live e
 
     none_of : (o : Option EndCause) → is_some o ≡ false → o ≡ None
     none_of None e = refl
@@ -245,7 +263,8 @@ module _ (c : Config) (p : ℕ) (mk : List Making) (l : Lined mk) (low : p < 16)
       trees = then_is.ties;
       flows = then_is.flows;
       over = then_is.over;
-      downs = downs_still c p mk ms m l low ft r.fit told_by r.flows known r.made r.downs e;
+      downs = downs_still c p mk ms m l low ft r.fit told_by r.flows (parent_in_order c.tabs mk l (said ms) r.told r.fit)
+          (λ alive. let runs : is_ended (events_of p ms) ≡ false = r.over ∙ ap is_some alive in own_told c p mk l (said ms) (events_of p ms) r.flows runs (r.trees.facts runs)) known r.made r.downs e;
       made = own_made_still c p ms m r.flows r.made e;
       ups = λ runs. ups_still c p mk ms m (record { lined = l; ties = st; made = told_did; flows = r.flows; running = alive (ran runs); sent = sent }) e (r.ups (ran runs));
       live = λ runs. children_kept c p ms m mk l ft told_by (r.trees.facts (ran runs)).lives (r.live (ran runs)) low e;

@@ -19,7 +19,7 @@ use Rattle.model.proofs.Classify.{entry_is}
 use Rattle.model.proofs.Counts.{RisesTo, counts_still, taken_still, taken_and_waiting, rises_still, counts_start, taken_start, rises_start}
 use Rattle.model.proofs.Entry.{Entry}
 use Rattle.model.proofs.Good.{IsGood}
-use Rattle.model.proofs.Lining.{Coherent, IsFrame, Lined, IsToldBy, all_told, lined}
+use Rattle.model.proofs.Lining.{Coherent, IsPlaced, Lined, IsToldBy, all_told, lined}
 use Rattle.model.proofs.Names.{NameTies, names_at_start, names_still}
 use Rattle.model.proofs.Run.{all_before, all_behind, own_behind, own_before, RunTies, facts_of_run, run_start, run_next}
 use Rattle.model.proofs.Ups.{first_good}
@@ -27,7 +27,7 @@ use Rattle.model.proofs.Ups.{first_good}
 -- the makings so far, or more
 pub record MakingsOf (p : ℕ) (ms : List Moment) (mk : List Making) : Type 0 where
   pub coherent : Coherent mk
-  pub frames : AllByRecursion IsFrame mk
+  pub frames : AllByRecursion IsPlaced mk
   pub later : List Making
   pub is : mk ≡ later ++ makings p ms
 

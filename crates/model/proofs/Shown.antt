@@ -1,5 +1,5 @@
--- What a process answers of a field of its trees is what the field's trace replays, at every moment.
-use Rattle.std.proofs.Common.{◌≡◌, ◌⊎◌, inl, inr, ℕ, suc, ◌+◌, ◌≤◌, ◌==◌, Bool, true, false, ◌&&◌, if◌then◌else◌, Option, None, Some, is_some, List, [], ◌∷◌, ◌++◌, length, refl, ap, ap₂, sym, subst, ◌∙◌, arith, length-append}
+-- What a process answers of a field is what the field's trace replays, at every moment.
+use Rattle.std.proofs.Common.{◌≡◌, ◌⊎◌, inl, inr, ℕ, suc, ◌+◌, ◌≤◌, ◌==◌, Bool, true, false, ◌&&◌, if◌then◌else◌, Option, None, Some, is_some, List, [], ◌∷◌, ◌++◌, length, map, refl, ap, ap₂, sym, subst, ◌∙◌, arith, length-append}
 use Rattle.std.specs.Prelude.{nat_lt}
 use Rattle.std.specs.List.{AllByRecursion, list_any}
 use Rattle.fission_ids.specs.declared.context.ContextId.{ContextId}
@@ -14,6 +14,7 @@ use Rattle.wire_msgs.specs.declared.bundle.UpBundle.{UpBundle}
 use Rattle.wire_msgs.specs.declared.config.Config.{Config}
 use Rattle.wire_msgs.specs.declared.part.DownPart.{DownPart}
 use Rattle.wire_msgs.specs.declared.part.DownPart.TheVariants as downs
+use Rattle.wire_msgs.specs.declared.part.Known.{Known}
 use Rattle.wire_msgs.specs.declared.part.UpPart.{UpPart}
 use Rattle.wire_msgs.specs.declared.part.UpPart.TheVariants as ups
 use Rattle.protocol.specs.Bundle.{bundle_for}
@@ -31,8 +32,8 @@ use Rattle.traces.specs.Field.Content.{Nothing, Gives, Begins, Removes, Leaves}
 use Rattle.traces.specs.Links.{writes, last_write, bundles_sent, bundles_waiting, takes, is_ended, hears}
 use Rattle.traces.specs.Replay.{replay, shown_after_take, shown_after_write}
 use Rattle.traces.specs.Laws.{Projected}
-use Rattle.traces.specs.Rules.{Flows, Rises}
-use Rattle.traces.specs.Words.{Start, Stage, or_else, latest_number, number_after, while_held}
+use Rattle.traces.specs.Rules.{Flows, Rises, IsFirst}
+use Rattle.traces.specs.Words.{Start, Stage, latest_number, number_after, while_held}
 use Rattle.traces.specs.Words.Stage.{Coming, Held, Gone}
 use Rattle.traces.specs.Words as words
 use Rattle.traces.proofs.Own.{written_none}
@@ -45,13 +46,13 @@ use Rattle.trees.specs.Look.Effect.{Stays, Comes, Goes}
 use Rattle.trees.specs.Rules.{Keeps}
 use Rattle.trees.specs.Words.{is_held}
 use Rattle.trees.proofs.Lists.{first_is}
-use Rattle.trees.proofs.Taking.{comings_below}
+use Rattle.trees.proofs.Taking.{comings_below, first_new}
 use Rattle.model.specs.Lines.{Making, line, above_in, is_among}
 use Rattle.model.specs.Moments.{Moment, Written, ProcessEvent, did_by, events_of, facts_now, seen_now, own_known, deed, written}
 use Rattle.model.specs.Moments.Written.{Own}
 use Rattle.model.specs.Process.{own_asked, value, holds, newest}
-use Rattle.model.specs.Trees.{is_of_its_tabs, parts_do, parts_tell, tree_look, tree_begin}
-use Rattle.model.specs.View.{value_for, value_in_parts, value_written, begun, content_of, begin}
+use Rattle.model.specs.Trees.{parts_tell, tree_look, tree_begin}
+use Rattle.model.specs.View.{value_in_parts, value_written, begun, content_of, singles, begin}
 use Rattle.model.specs.View as view
 use Rattle.model.proofs.AskedMore.{own_asked_more}
 use Rattle.model.proofs.Cases.{by_if, true_false, same_context_is}
@@ -63,6 +64,7 @@ use Rattle.model.proofs.Entry.Entry.{Idle, Sets, Frames, Drops, TakesOne, Tells,
 use Rattle.model.proofs.Entry.Hearing.{AsMade, AsLate, AsDrop, AsOldDrop, AsAcks, AsCommit, AsOldCommit, AsOver}
 use Rattle.model.proofs.FieldBefore.{FieldBefore, FieldTies, stage_until}
 use Rattle.model.proofs.FieldFits.{acks_write, held_field, fits_frame, framed_above}
+use Rattle.model.proofs.SingleFits.{SingleFits, singles_fit}
 use Rattle.model.proofs.Stages.{trace_of, tree_stage, IsParents, told_parents, heard_parents, acks_posted, by_acks, acks_do, same_took}
 use Rattle.model.proofs.Taken.{fresh_of, steps, steps_are, StaysHeld, held_steps, HasCome, come_steps, unvalued_steps, content_held, none_tells, stays_none, coming_of, IsComing, NoneOf}
 use Rattle.model.proofs.TreeEvents.{until_end, never_ends, waits_same, flows_still}
@@ -108,6 +110,15 @@ plain_value x fld (downs.Create k ∷ parts) plain = later_none (parts_value x f
 plain_value x fld (downs.Discard w ∷ parts) plain = later_none (parts_value x fld parts) ∙ plain_value x fld parts plain.1
 plain_value x fld (_ ∷ parts) plain = later_none (parts_value x fld parts) ∙ plain_value x fld parts plain.1
 
+plain_creates : (ks : List Known) (parts : List DownPart) → AllByRecursion IsNoCommit parts → AllByRecursion IsNoCommit (map (λ (k : Known). downs.Create k) ks ++ parts)
+plain_creates [] parts plain = plain
+plain_creates (k ∷ ks) parts plain = (tt, plain_creates ks parts plain)
+
+plain_singles : (parts : List DownPart) → AllByRecursion IsNoCommit parts → AllByRecursion IsNoCommit (singles parts)
+plain_singles [] plain = tt
+plain_singles (downs.Register g ks ∷ parts) plain = plain_creates ks (singles parts) (plain_singles parts plain.1)
+plain_singles (_ ∷ parts) plain = (plain.0, plain_singles parts plain.1)
+
 replay_back : {V : Type 0} (start : Start V) (k : ℕ) (w : Option V) (e : Content V) (h : Trace V) → replay start (reverted_for k w e h) ≡ replay start h
 replay_back start k None e h = refl
 replay_back start k (Some v) Nothing h = refl
@@ -135,7 +146,7 @@ written_back k (Some v) Leaves h = refl
 last_same : (c : Config) (p : ℕ) (mk : List Making) (x : ContextId) (fld : Field) (h : List ProcessEvent) → last_write (trace_of c p mk x fld h) ≡ last_write h
 last_same c p mk x fld [] = refl
 last_same c p mk x fld (Writes w ∷ h) = ap (λ n. n + 1) (last_same c p mk x fld h)
-last_same c p mk x fld (Reverts k w d ∷ h) = written_back k (value_written x fld w) (content_of x (line x mk) fld d.parts) (trace_of c p mk x fld h) ∙ last_same c p mk x fld h
+last_same c p mk x fld (Reverts k w d ∷ h) = written_back k (value_written x fld w) (content_of x (line x mk) fld (singles d.parts)) (trace_of c p mk x fld h) ∙ last_same c p mk x fld h
 last_same c p mk x fld (_ ∷ h) = last_same c p mk x fld h
 
 took_same : (p : ℕ) (s : Seen) (x : ContextId) (fld : Field) → ((seen_after p Took s).holds x ≡ s.holds x) × ((seen_after p Took s).value x fld ≡ s.value x fld) × ((seen_after p Took s).newest x fld ≡ s.newest x fld)
@@ -166,7 +177,7 @@ unheld_shown start h e = shows_kept start h ∙ by_stage (words.stage start.stag
 held_shown : {V : Type 0} (start : Start V) (h : Trace V) → words.stage start.stage h ≡ Held → replay start h ≡ Some (kept start h)
 held_shown start h e = shows_kept start h ∙ ap (λ s. while_held s (kept start h)) e
 
-module _ (c : Config) (p : ℕ) (mk : List Making) (x : ContextId) (fld : Field) (mine : is_of_its_tabs c p mk x ≡ true) (ms : List Moment) (m : Moment) (b : FieldBefore c p mk ms m) (t : FieldTies c p mk x fld ms)
+module _ (c : Config) (p : ℕ) (mk : List Making) (x : ContextId) (fld : Field) (ms : List Moment) (m : Moment) (b : FieldBefore c p mk ms m) (t : FieldTies c p mk x fld ms)
     (a : ShownBefore c p mk ms m) (v : ShownTies c p mk x fld ms)
   where
     abbrev h : List ProcessEvent
@@ -193,9 +204,9 @@ module _ (c : Config) (p : ℕ) (mk : List Making) (x : ContextId) (fld : Field)
     replay_parents (Reverts k w d ∷ es) all =
         let r : ShownNext s es = replay_parents es all.1 in
         let g : Trace Value = trace_of c p mk x fld (es ++ h) in record {
-          newest_is = λ held. r.newest_is held ∙ ap (λ i. count_to i (writes (es ++ h))) (sym (newest_back k (value_written x fld w) (content_of x (line x mk) fld d.parts) g));
-          number = subst (λ i. IsNumber i (writes (es ++ h))) (sym (newest_back k (value_written x fld w) (content_of x (line x mk) fld d.parts) g)) r.number;
-          shown = r.shown ∙ sym (replay_back start k (value_written x fld w) (content_of x (line x mk) fld d.parts) g);
+          newest_is = λ held. r.newest_is held ∙ ap (λ i. count_to i (writes (es ++ h))) (sym (newest_back k (value_written x fld w) (content_of x (line x mk) fld (singles d.parts)) g));
+          number = subst (λ i. IsNumber i (writes (es ++ h))) (sym (newest_back k (value_written x fld w) (content_of x (line x mk) fld (singles d.parts)) g)) r.number;
+          shown = r.shown ∙ sym (replay_back start k (value_written x fld w) (content_of x (line x mk) fld (singles d.parts)) g);
         }
     replay_parents (Sends k u d ∷ es) all = let r : ShownNext s es = replay_parents es all.1 in record { newest_is = r.newest_is; number = r.number; shown = r.shown }
     replay_parents (Accepts k w ∷ es) all = let r : ShownNext s es = replay_parents es all.1 in record { newest_is = r.newest_is; number = r.number; shown = r.shown }
@@ -249,7 +260,7 @@ module _ (c : Config) (p : ℕ) (mk : List Making) (x : ContextId) (fld : Field)
       newest_is = λ here. (wrote_newest u commits (same_context x y) (new_value d fld)).0 here ∙ ap (λ ps. count_to (latest_number (value_in_parts x fld ps) (last_write T + 1) (words.newest T)) (writes h ++ Own u ∷ [])) (sym is);
       number = subst (λ ps. IsNumber (latest_number (value_in_parts x fld ps) (last_write T + 1) (words.newest T)) (writes h ++ Own u ∷ [])) (sym is) (wrote_newest u commits (same_context x y) (new_value d fld)).1;
       shown = ap (λ w. if same_context x y then or_later (new_value d fld) w else w) v.shown
-          ∙ write_shown (same_context x y) (new_value d fld) (replay start T) (kept start T) (λ e. held_shown start T (held_field c p mk x fld mine ms m b t (ap s.holds (same_context_is x y e) ∙ held)))
+          ∙ write_shown (same_context x y) (new_value d fld) (replay start T) (kept start T) (λ e. held_shown start T (held_field c p mk x fld ms m b t (ap s.holds (same_context_is x y e) ∙ held)))
           ∙ ap (λ ps. shown_after_write (value_in_parts x fld ps) (replay start T)) (sym is);
     }
       where
@@ -268,7 +279,7 @@ module _ (c : Config) (p : ℕ) (mk : List Making) (x : ContextId) (fld : Field)
     }
       where
         coming : same_context x f ≡ true → words.stage (begin c p x fld).stage (trace_of c p mk x fld (events_of p ms)) ≡ Coming
-        coming e = (fits_frame c p mk x fld mine ms m b t y held up (ap (same_context x) (sym is) ∙ e)).unheld
+        coming e = (fits_frame c p mk x fld ms m b t y held up (ap (same_context x) (sym is) ∙ e)).unheld
 
         newest_by : (w : Bool) → same_context x f ≡ w → (if w then true else (seen_now c p ms).holds x) ≡ true → (if w then 0 else (seen_now c p ms).newest x fld) ≡ count_to (words.newest (trace_of c p mk x fld (events_of p ms))) (writes (events_of p ms))
         newest_by true e here = ap (λ i. count_to i (writes h)) (sym (coming_unwritten start T t.fits (coming e)))
@@ -279,7 +290,7 @@ module _ (c : Config) (p : ℕ) (mk : List Making) (x : ContextId) (fld : Field)
         shown_by false e = v.shown
 
     unheld_value : (seen_now c p ms).holds x ≡ false → (seen_now c p ms).value x fld ≡ None
-    unheld_value e = v.shown ∙ unheld_shown start T (ap is_held (t.stages ∙ sym (stage_until c p mk x h)) ∙ b.seen.stages x mine ∙ e)
+    unheld_value e = v.shown ∙ unheld_shown start T (ap is_held (t.stages ∙ sym (stage_until c p mk x h)) ∙ b.seen.stages x ∙ e)
 
     shown_went : (y : ContextId) → ShownNext (seen_after p (Went y) (seen_now c p ms)) (deed (downs.Discard y) ∷ [])
     unfolding seen_after
@@ -310,7 +321,7 @@ module _ (c : Config) (p : ℕ) (mk : List Making) (x : ContextId) (fld : Field)
 
     module _ (d : Bundle DownBundle) (rest : List (Bundle DownBundle)) (first : bundles_waiting (events_of p ms) ≡ d ∷ rest) (stage_next : tree_stage c p mk x fld (Takes d ∷ events_of p ms) ≡ tree_stage c p mk x fld (m.events p ++ events_of p ms)) where
       abbrev parts : List DownPart
-      parts = d.content.parts
+      parts = singles d.content.parts
 
       pub fits : DownFits c p mk (seen_now c p ms).frames_made d.content.parts
       fits = of_all (subst (AllByRecursion (λ (d : Bundle DownBundle). DownFits c p mk s.frames_made d.content.parts)) first a.downs)
@@ -318,93 +329,105 @@ module _ (c : Config) (p : ℕ) (mk : List Making) (x : ContextId) (fld : Field)
           of_all : AllByRecursion (λ (d : Bundle DownBundle). DownFits c p mk (seen_now c p ms).frames_made d.content.parts) (d ∷ rest) → DownFits c p mk (seen_now c p ms).frames_made d.content.parts
           of_all all = all.0
 
+      kinds : AllByRecursion (SingleFits p (seen_now c p ms).frames_made) (singles d.content.parts)
+      kinds = singles_fit p s.frames_made d.content.parts fits.kinds
+
       stamped : Stamped (writes (events_of p ms)) d
       stamped = first_is (Stamped (writes h)) (takes h) (bundles_sent h) d (record { rest = rest; is = first }) a.numbers.stamps
 
-      abbrev after : Seen
-      after = steps c p d.content.epoch.0 d.content.parts (seen_now c p ms)
-
       -- the events tell of a context what its parts tell
-      told_parts : tree_stage c p mk x fld (Takes d ∷ events_of p ms) ≡ moved (parts_tell x (line x mk) d.content.parts) (tree_stage c p mk x fld (events_of p ms))
-      told_parts = ap (λ (w : Bool). moved (if w then parts_tell x (line x mk) parts else Stays) (tree_stage c p mk x fld h)) mine
+      told_parts : tree_stage c p mk x fld (Takes d ∷ events_of p ms) ≡ moved (parts_tell x (line x mk) (singles d.content.parts)) (tree_stage c p mk x fld (events_of p ms))
+      told_parts = refl
 
       held_after : (seen_now c p (m ∷ ms)).holds x ≡ is_held (tree_stage c p mk x fld (Takes d ∷ events_of p ms))
-      held_after = sym (ap is_held (stage_next ∙ sym (stage_until c p mk x (m.events p ++ h))) ∙ a.seen_next.stages x mine)
+      held_after = sym (ap is_held (stage_next ∙ sym (stage_until c p mk x (m.events p ++ h))) ∙ a.seen_next.stages x)
 
       abbrev obsolete : Bool
       obsolete = nat_lt d.epoch (words.newest (trace_of c p mk x fld (events_of p ms)))
 
       -- whether what is given is obsolete, where there are values
-      fresh_same : (seen_now c p ms).holds x ≡ true → fresh_of (nat_lt d.content.epoch.0 ((seen_now c p ms).newest x fld)) (parts_value x fld d.content.parts) ≡ fresh_of (nat_lt d.epoch (words.newest (trace_of c p mk x fld (events_of p ms)))) (parts_value x fld d.content.parts)
+      fresh_same : (seen_now c p ms).holds x ≡ true → fresh_of (nat_lt d.content.epoch.0 ((seen_now c p ms).newest x fld)) (parts_value x fld (singles d.content.parts)) ≡ fresh_of (nat_lt d.epoch (words.newest (trace_of c p mk x fld (events_of p ms)))) (parts_value x fld (singles d.content.parts))
       fresh_same held = by_stamp stamped
         where
           none_fresh : (w : Bool) → fresh_of w None ≡ None
           none_fresh true = refl
           none_fresh false = refl
 
-          by_stamp : Stamped (writes (events_of p ms)) d → fresh_of (nat_lt d.content.epoch.0 ((seen_now c p ms).newest x fld)) (parts_value x fld d.content.parts) ≡ fresh_of (nat_lt d.epoch (words.newest (trace_of c p mk x fld (events_of p ms)))) (parts_value x fld d.content.parts)
+          by_stamp : Stamped (writes (events_of p ms)) d → fresh_of (nat_lt d.content.epoch.0 ((seen_now c p ms).newest x fld)) (parts_value x fld (singles d.content.parts)) ≡ fresh_of (nat_lt d.epoch (words.newest (trace_of c p mk x fld (events_of p ms)))) (parts_value x fld (singles d.content.parts))
           by_stamp (inl plain) =
-              ap (fresh_of (nat_lt d.content.epoch.0 (s.newest x fld))) (plain_value x fld parts plain) ∙ none_fresh (nat_lt d.content.epoch.0 (s.newest x fld))
-              ∙ sym (ap (fresh_of obsolete) (plain_value x fld parts plain) ∙ none_fresh obsolete)
+              ap (fresh_of (nat_lt d.content.epoch.0 (s.newest x fld))) (plain_value x fld parts (plain_singles d.content.parts plain)) ∙ none_fresh (nat_lt d.content.epoch.0 (s.newest x fld))
+              ∙ sym (ap (fresh_of obsolete) (plain_value x fld parts (plain_singles d.content.parts plain)) ∙ none_fresh obsolete)
           by_stamp (inr stamp) =
               ap (λ w. fresh_of w (parts_value x fld parts)) (ap₂ nat_lt stamp.epoch (v.newest_is held) ∙ older_same d.epoch (words.newest T) (writes h) v.number)
 
-      never_here : (k : Rattle.model.proofs.Taken.IsComing c p d.content.epoch.0 mk b.lined x fld (seen_now c p ms).frames_made d.content.parts) → (seen_now c p ms).holds x ≡ true → parts_tell x (line x mk) d.content.parts ≡ Comes → ⊥
-      never_here k held comes = (comings_below (tree_look c p mk) (tree_begin c p) d (until_end h) keeps (never_ends h) (record { rest = rest; is = waits_same h b.flows ∙ first })
-          x k.fits.known.below (ap (λ z. z.creator == p + 1) k.is ∙ k.fits.others) (ap (above_in mk) k.is ∙ k.fits.known.made) (ap (λ (w : Bool). if w then parts_tell x (line x mk) parts else Stays) mine ∙ comes)).0
-          (stage_until c p mk x h ∙ sym t.stages ∙ held_field c p mk x fld mine ms m b t held)
+      never_here : (k : Rattle.model.proofs.Taken.IsComing c p d.content.epoch.0 mk b.lined x fld (seen_now c p ms).frames_made (singles d.content.parts)) → (seen_now c p ms).holds x ≡ true → parts_tell x (line x mk) (singles d.content.parts) ≡ Comes → ⊥
+      never_here k held comes = by_above (above_in mk x) refl
         where
-          keeps : Keeps (tree_look c p mk) (tree_begin c p) (until_end (events_of p ms))
+          keeps : Keeps (tree_look c p mk) (tree_begin c p mk) (until_end (events_of p ms))
           keeps = record { lawful = lawful c p mk b.lined; flows = flows_still h b.flows; fits = b.seen.fits }
 
-      stays_kept : is_held (tree_stage c p mk x fld (Takes d ∷ events_of p ms)) ≡ true → parts_tell x (line x mk) d.content.parts ≡ Goes → ⊥
+          other : (x.creator == p + 1) ≡ false
+          other = ap (λ z. z.creator == p + 1) k.is ∙ k.fits.others
+
+          held_stage : tree_stage c p mk x fld (until_end (events_of p ms)) ≡ Held
+          held_stage = stage_until c p mk x h ∙ sym t.stages ∙ held_field c p mk x fld ms m b t held
+
+          waits : IsFirst d (bundles_waiting (until_end (events_of p ms)))
+          waits = record { rest = rest; is = waits_same h b.flows ∙ first }
+
+          by_above : (o : Option ContextId) → above_in mk x ≡ o → ⊥
+          by_above None top =
+              let two : Held ≡ Coming = sym held_stage ∙ first_new (tree_look c p mk) (tree_begin c p mk) keeps.lawful x other top d (until_end h) keeps.flows keeps.fits (never_ends h) waits comes in absurd cc
+          by_above (Some y) up = (comings_below (tree_look c p mk) (tree_begin c p mk) d (until_end h) keeps (never_ends h) waits x y other up comes).0 held_stage
+
+      stays_kept : is_held (tree_stage c p mk x fld (Takes d ∷ events_of p ms)) ≡ true → parts_tell x (line x mk) (singles d.content.parts) ≡ Goes → ⊥
       stays_kept is goes = let two : true ≡ false = sym is ∙ ap is_held (told_parts ∙ ap (λ e. moved e (tree_stage c p mk x fld h)) goes) in absurd cc
 
       -- a context that it has and keeps
-      shown_still : (seen_now c p ms).holds x ≡ true → is_held (tree_stage c p mk x fld (Takes d ∷ events_of p ms)) ≡ true → (u : Seen) → u.value x fld ≡ (steps c p d.content.epoch.0 d.content.parts (seen_now c p ms)).value x fld
-          → u.newest x fld ≡ (steps c p d.content.epoch.0 d.content.parts (seen_now c p ms)).newest x fld → ShownNext u (Takes d ∷ [])
+      shown_still : (seen_now c p ms).holds x ≡ true → is_held (tree_stage c p mk x fld (Takes d ∷ events_of p ms)) ≡ true → (u : Seen) → u.value x fld ≡ (steps c p d.content.epoch.0 (singles d.content.parts) (seen_now c p ms)).value x fld
+          → u.newest x fld ≡ (steps c p d.content.epoch.0 (singles d.content.parts) (seen_now c p ms)).newest x fld → ShownNext u (Takes d ∷ [])
       shown_still held is u same_value same_newest = record {
         newest_is = λ here. same_newest ∙ r.newest ∙ v.newest_is held ∙ ap (λ i. count_to i (writes h)) (sym number_is);
         number = subst (λ i. IsNumber i (writes h)) (sym number_is) v.number;
         shown = same_value ∙ r.value ∙ ap (λ o. or_later o (s.value x fld)) (fresh_same held)
-            ∙ given_shown obsolete (parts_value x fld parts) (s.value x fld) (kept start T) (initial fld) (words.stage start.stage T) (v.shown ∙ held_shown start T (held_field c p mk x fld mine ms m b t held))
+            ∙ given_shown obsolete (parts_value x fld parts) (s.value x fld) (kept start T) (initial fld) (words.stage start.stage T) (v.shown ∙ held_shown start T (held_field c p mk x fld ms m b t held))
             ∙ ap₂ (λ e w. shown_after_take e obsolete (words.stage start.stage T) w) (sym content_is) v.shown;
       }
         where
-          r : StaysHeld c p d.content.epoch.0 mk b.lined x fld (seen_now c p ms).frames_made d.content.parts (seen_now c p ms) (steps c p d.content.epoch.0 d.content.parts (seen_now c p ms))
-          r = held_steps c p d.content.epoch.0 mk b.lined x fld s.frames_made parts s fits.come fits.kinds b.ties held (stays_kept is)
+          r : StaysHeld c p d.content.epoch.0 mk b.lined x fld (seen_now c p ms).frames_made (singles d.content.parts) (seen_now c p ms) (steps c p d.content.epoch.0 (singles d.content.parts) (seen_now c p ms))
+          r = held_steps c p d.content.epoch.0 mk b.lined x fld s.frames_made parts s fits.come kinds b.ties held (stays_kept is)
 
-          number_is : number_after (content_of x (line x mk) fld d.content.parts) (words.newest (trace_of c p mk x fld (events_of p ms))) ≡ words.newest (trace_of c p mk x fld (events_of p ms))
+          number_is : number_after (content_of x (line x mk) fld (singles d.content.parts)) (words.newest (trace_of c p mk x fld (events_of p ms))) ≡ words.newest (trace_of c p mk x fld (events_of p ms))
           number_is = number_stays (content_of x (line x mk) fld parts) (words.newest T) (content_stays x (line x mk) fld parts)
 
-          content_is : content_of x (line x mk) fld d.content.parts ≡ content_by Stays (parts_value x fld d.content.parts) (initial fld)
+          content_is : content_of x (line x mk) fld (singles d.content.parts) ≡ content_by Stays (parts_value x fld (singles d.content.parts)) (initial fld)
           content_is = by_tell (parts_tell x (line x mk) parts) refl (coming_of c p d.content.epoch.0 mk b.lined x fld s.frames_made parts fits.come)
             where
-              by_tell : (e : Effect) → parts_tell x (line x mk) d.content.parts ≡ e
-                  → (NoneOf c p d.content.epoch.0 mk b.lined x fld (seen_now c p ms).frames_made (Rattle.model.proofs.Arranging.come_all d.content.parts)) ⊎ IsComing c p d.content.epoch.0 mk b.lined x fld (seen_now c p ms).frames_made d.content.parts
-                  → content_of x (line x mk) fld d.content.parts ≡ content_by Stays (parts_value x fld d.content.parts) (initial fld)
+              by_tell : (e : Effect) → parts_tell x (line x mk) (singles d.content.parts) ≡ e
+                  → (NoneOf c p d.content.epoch.0 mk b.lined x fld (seen_now c p ms).frames_made (Rattle.model.proofs.Arranging.come_all (singles d.content.parts))) ⊎ IsComing c p d.content.epoch.0 mk b.lined x fld (seen_now c p ms).frames_made (singles d.content.parts)
+                  → content_of x (line x mk) fld (singles d.content.parts) ≡ content_by Stays (parts_value x fld (singles d.content.parts)) (initial fld)
               by_tell Comes e (inl none) = absurd (none_tells c p d.content.epoch.0 mk b.lined x fld s.frames_made parts none e)
               by_tell Comes e (inr k) = absurd (never_here k held e)
               by_tell Goes e found = absurd (stays_kept is e)
               by_tell Stays e found = content_held c p d.content.epoch.0 mk b.lined x fld s.frames_made parts fits.first (stays_none c p d.content.epoch.0 mk b.lined x fld s.frames_made parts e) (stays_kept is)
 
       -- one that comes
-      shown_came : (seen_now c p ms).holds x ≡ false → is_held (tree_stage c p mk x fld (Takes d ∷ events_of p ms)) ≡ true → (steps c p d.content.epoch.0 d.content.parts (seen_now c p ms)).holds x ≡ true
-          → (u : Seen) → u.value x fld ≡ (steps c p d.content.epoch.0 d.content.parts (seen_now c p ms)).value x fld → u.newest x fld ≡ (steps c p d.content.epoch.0 d.content.parts (seen_now c p ms)).newest x fld → ShownNext u (Takes d ∷ [])
+      shown_came : (seen_now c p ms).holds x ≡ false → is_held (tree_stage c p mk x fld (Takes d ∷ events_of p ms)) ≡ true → (steps c p d.content.epoch.0 (singles d.content.parts) (seen_now c p ms)).holds x ≡ true
+          → (u : Seen) → u.value x fld ≡ (steps c p d.content.epoch.0 (singles d.content.parts) (seen_now c p ms)).value x fld → u.newest x fld ≡ (steps c p d.content.epoch.0 (singles d.content.parts) (seen_now c p ms)).newest x fld → ShownNext u (Takes d ∷ [])
       shown_came unheld is here u same_value same_newest = record {
         newest_is = λ held. same_newest ∙ r.newest ∙ ap (λ i. count_to i (writes h)) (sym (number_is ∙ coming_unwritten start T t.fits was));
         number = subst (λ i. IsNumber i (writes h)) (sym number_is) v.number;
         shown = same_value ∙ r.value ∙ ap₂ (λ e st. shown_after_take e obsolete st (replay start T)) (sym r.content) (sym was);
       }
         where
-          r : HasCome c p d.content.epoch.0 mk b.lined x fld (seen_now c p ms).frames_made d.content.parts (steps c p d.content.epoch.0 d.content.parts (seen_now c p ms))
-          r = come_steps c p d.content.epoch.0 mk b.lined x fld s.frames_made parts s fits.first fits.apart fits.come fits.kinds b.ties unheld (stays_kept is) here
+          r : HasCome c p d.content.epoch.0 mk b.lined x fld (seen_now c p ms).frames_made (singles d.content.parts) (steps c p d.content.epoch.0 (singles d.content.parts) (seen_now c p ms))
+          r = come_steps c p d.content.epoch.0 mk b.lined x fld s.frames_made parts s fits.first fits.apart fits.come kinds b.ties unheld (stays_kept is) here
 
-          number_is : number_after (content_of x (line x mk) fld d.content.parts) (words.newest (trace_of c p mk x fld (events_of p ms))) ≡ words.newest (trace_of c p mk x fld (events_of p ms))
+          number_is : number_after (content_of x (line x mk) fld (singles d.content.parts)) (words.newest (trace_of c p mk x fld (events_of p ms))) ≡ words.newest (trace_of c p mk x fld (events_of p ms))
           number_is = number_stays (content_of x (line x mk) fld parts) (words.newest T) (content_stays x (line x mk) fld parts)
 
           unheld_stage : is_held (tree_stage c p mk x fld (events_of p ms)) ≡ false
-          unheld_stage = ap is_held (sym (stage_until c p mk x h)) ∙ b.seen.stages x mine ∙ unheld
+          unheld_stage = ap is_held (sym (stage_until c p mk x h)) ∙ b.seen.stages x ∙ unheld
 
           coming_before : (e : Effect) (st : Stage) → is_held st ≡ false → is_held (moved e st) ≡ true → st ≡ Coming
           coming_before e Coming before behind = refl
@@ -425,8 +448,8 @@ module _ (c : Config) (p : ℕ) (mk : List Making) (x : ContextId) (fld : Field)
         shown = none_value ∙ sym (unheld_shown start (trace_of c p mk x fld (Takes d ∷ h)) (ap is_held same ∙ is));
       }
 
-      pub shown_took : (u : Seen) → u.holds x ≡ (steps c p d.content.epoch.0 d.content.parts (seen_now c p ms)).holds x → u.value x fld ≡ (steps c p d.content.epoch.0 d.content.parts (seen_now c p ms)).value x fld
-          → u.newest x fld ≡ (steps c p d.content.epoch.0 d.content.parts (seen_now c p ms)).newest x fld → u.holds x ≡ (seen_now c p (m ∷ ms)).holds x
+      pub shown_took : (u : Seen) → u.holds x ≡ (steps c p d.content.epoch.0 (singles d.content.parts) (seen_now c p ms)).holds x → u.value x fld ≡ (steps c p d.content.epoch.0 (singles d.content.parts) (seen_now c p ms)).value x fld
+          → u.newest x fld ≡ (steps c p d.content.epoch.0 (singles d.content.parts) (seen_now c p ms)).newest x fld → u.holds x ≡ (seen_now c p (m ∷ ms)).holds x
           → words.stage (begin c p x fld).stage (trace_of c p mk x fld (Takes d ∷ events_of p ms)) ≡ tree_stage c p mk x fld (Takes d ∷ events_of p ms) → ShownNext u (Takes d ∷ [])
       shown_took u same_holds same_value same_newest now same = by_held (is_held (tree_stage c p mk x fld (Takes d ∷ h))) refl (s.holds x) refl
         where
@@ -435,14 +458,14 @@ module _ (c : Config) (p : ℕ) (mk : List Making) (x : ContextId) (fld : Field)
           by_held true is false unheld = shown_came unheld is (sym same_holds ∙ now ∙ held_after ∙ is) u same_value same_newest
           by_held false is z held =
               shown_unheld is same u (now ∙ held_after ∙ is)
-              (same_value ∙ unvalued_steps c p d.content.epoch.0 mk b.lined x fld s.frames_made parts s fits.kinds (λ e. unheld_value e) (sym same_holds ∙ now ∙ held_after ∙ is))
+              (same_value ∙ unvalued_steps c p d.content.epoch.0 mk b.lined x fld s.frames_made parts s kinds (λ e. unheld_value e) (sym same_holds ∙ now ∙ held_after ∙ is))
 
     -- ---- all entries
 
     taken_stage : (d : Bundle DownBundle) (parts : List UpPart) → AllByRecursion IsAck parts
         → tree_stage c p mk x fld (Takes d ∷ events_of p ms) ≡ tree_stage c p mk x fld ((written (bundle_sent (seen_now c p (m ∷ ms)) parts) ++ Takes d ∷ []) ++ events_of p ms)
     taken_stage d parts acks = by_acks (λ es. tree_stage c p mk x fld (Takes d ∷ events_of p ms) ≡ tree_stage c p mk x fld ((es ++ Takes d ∷ []) ++ events_of p ms)) (seen_now c p (m ∷ ms)) parts acks refl
-        (λ u plain. ap (λ e. moved e (tree_stage c p mk x fld (Takes d ∷ h))) (sym (ap (λ (w : Bool). if w then parts_do x (line x mk) u.parts else Stays) mine ∙ acks_do x (line x mk) u.parts plain)))
+        (λ u plain. ap (λ e. moved e (tree_stage c p mk x fld (Takes d ∷ h))) (sym (acks_do x (line x mk) u.parts plain)))
 
     shown_taken : (d : Bundle DownBundle) (rest : List (Bundle DownBundle)) → IsTake c p ms m d rest → (acked : List UpPart) → AllByRecursion IsAck acked → m.events p ≡ written (bundle_sent (seen_now c p (m ∷ ms)) acked) ++ Takes d ∷ []
         → ShownNext (seen_now c p (m ∷ ms)) (m.events p)
@@ -454,18 +477,18 @@ module _ (c : Config) (p : ℕ) (mk : List Making) (x : ContextId) (fld : Field)
         stage_same : tree_stage c p mk x fld (Takes d ∷ events_of p ms) ≡ tree_stage c p mk x fld (m.events p ++ events_of p ms)
         stage_same = taken_stage d acked acks ∙ ap (λ es. tree_stage c p mk x fld (es ++ h)) (sym events)
 
-        seen_is : seen_now c p (m ∷ ms) ≡ seen_after p Took (steps c p d.content.epoch.0 d.content.parts (seen_now c p ms))
+        seen_is : seen_now c p (m ∷ ms) ≡ seen_after p Took (steps c p d.content.epoch.0 (singles d.content.parts) (seen_now c p ms))
         seen_is =
             ap (λ ds. own_asked c.tabs p (ds ++ did_by p ms)) is.did ∙ own_asked_more c.tabs p Took _
             ∙ ap (seen_after p Took) (steps_are c p d.content.epoch.0 (did_by p ms) s.frames_made d.content.parts [] (fits d rest is.first stage_same).kinds)
 
         took : ShownNext (seen_now c p (m ∷ ms)) (Takes d ∷ [])
         took =
-            let same : ((seen_after p Took (steps c p d.content.epoch.0 d.content.parts s)).holds x ≡ (steps c p d.content.epoch.0 d.content.parts s).holds x)
-            × ((seen_after p Took (steps c p d.content.epoch.0 d.content.parts s)).value x fld ≡ (steps c p d.content.epoch.0 d.content.parts s).value x fld)
-            × ((seen_after p Took (steps c p d.content.epoch.0 d.content.parts s)).newest x fld ≡ (steps c p d.content.epoch.0 d.content.parts s).newest x fld) = took_same p (steps c p d.content.epoch.0 d.content.parts s) x fld in
+            let same : ((seen_after p Took (steps c p d.content.epoch.0 (singles d.content.parts) s)).holds x ≡ (steps c p d.content.epoch.0 (singles d.content.parts) s).holds x)
+            × ((seen_after p Took (steps c p d.content.epoch.0 (singles d.content.parts) s)).value x fld ≡ (steps c p d.content.epoch.0 (singles d.content.parts) s).value x fld)
+            × ((seen_after p Took (steps c p d.content.epoch.0 (singles d.content.parts) s)).newest x fld ≡ (steps c p d.content.epoch.0 (singles d.content.parts) s).newest x fld) = took_same p (steps c p d.content.epoch.0 (singles d.content.parts) s) x fld in
             shown_took d rest is.first stage_same (seen_now c p (m ∷ ms)) (ap (λ (z : Seen). z.holds x) seen_is ∙ same.0) (ap (λ (z : Seen). z.value x fld) seen_is ∙ same.1) (ap (λ (z : Seen). z.newest x fld) seen_is ∙ same.2) refl
-            (same_took c p mk x fld mine d h t.stages)
+            (same_took c p mk x fld d h t.stages)
 
     did_one : (e : Doing) → m.did p ≡ e ∷ [] → seen_now c p (m ∷ ms) ≡ seen_after p e (seen_now c p ms)
     did_one e is = ap (λ ds. own_asked c.tabs p (ds ++ did_by p ms)) is ∙ own_asked_more c.tabs p e (did_by p ms)
@@ -486,7 +509,7 @@ module _ (c : Config) (p : ℕ) (mk : List Making) (x : ContextId) (fld : Field)
     shown_next (Frames y u is) = subst (ShownNext (seen_now c p (m ∷ ms))) (sym is.events)
         (one_write u (seen_now c p (m ∷ ms)) (deed (downs.Create (own_known (seen_now c p (m ∷ ms)) (next_frame p s) y)) ∷ []) (ap (value_in_parts x fld) is.sent.parts)
         (subst (λ z. ShownNext z (deed (downs.Create (own_known (seen_now c p (m ∷ ms)) (next_frame p s) y)) ∷ [])) (sym (did_one (Framed (next_frame p s) y) is.did))
-        (shown_framed (next_frame p s) y (own_known (seen_now c p (m ∷ ms)) (next_frame p s) y) refl refl refl is.held (framed_above c p mk x fld mine ms m b t (next_frame p s) y is.did))))
+        (shown_framed (next_frame p s) y (own_known (seen_now c p (m ∷ ms)) (next_frame p s) y) refl refl refl is.held (framed_above c p mk x fld ms m b t (next_frame p s) y is.did))))
     shown_next (Drops y u is) = subst (ShownNext (seen_now c p (m ∷ ms))) (sym is.events)
         (one_write u (seen_now c p (m ∷ ms)) (deed (downs.Discard y) ∷ []) (ap (value_in_parts x fld) is.sent.parts)
         (subst (λ z. ShownNext z (deed (downs.Discard y) ∷ [])) (sym (did_one (Went y) is.did)) (shown_went y)))

@@ -26,7 +26,7 @@ use Rattle.traces.specs.Field.Content.{Nothing, Gives, Begins, Removes, Leaves}
 use Rattle.traces.specs.Laws.{Projected}
 use Rattle.traces.specs.Links.{bundles_waiting, is_ended}
 use Rattle.traces.specs.Rules.{Flows}
-use Rattle.traces.specs.Words.{Stage, after}
+use Rattle.traces.specs.Words.{Stage}
 use Rattle.traces.specs.Words as words
 use Rattle.traces.proofs.Stages.{along}
 use Rattle.trees.specs.Look.{moved}
@@ -36,8 +36,8 @@ use Rattle.trees.proofs.Joint.{stage_behind, leads}
 use Rattle.model.specs.Lines.{Making, line}
 use Rattle.model.specs.Moments.{Moment, Written, ProcessEvent, events_of, seen_now, own_known, deed, written, told, heard, is_done}
 use Rattle.model.specs.Moments.Written.{Own}
-use Rattle.model.specs.Trees.{parts_do, parts_tell, is_of_its_tabs, tree_look, tree_begin}
-use Rattle.model.specs.View.{content_of, begin}
+use Rattle.model.specs.Trees.{parts_do, parts_tell, tree_look, tree_begin}
+use Rattle.model.specs.View.{content_of, singles, begin}
 use Rattle.model.specs.View as view
 use Rattle.model.proofs.Cases.{by_if}
 use Rattle.model.proofs.Contents.{content_moves}
@@ -110,87 +110,78 @@ module _ (c : Config) (p : ℕ) (mk : List Making) (x : ContextId) (fld : Field)
   field_stage h = words.stage (begin c p x fld).stage (trace_for (view.look x fld mk) h)
 
   abbrev pub tree_stage : List ProcessEvent → Stage
-  tree_stage h = stage (tree_look c p mk) (tree_begin c p) x h
+  tree_stage h = stage (tree_look c p mk) (tree_begin c p mk) x h
 
   abbrev pub SameStage : List ProcessEvent → Type 0
   SameStage h = field_stage h ≡ tree_stage h
 
-  module _ (mine : is_of_its_tabs c p mk x ≡ true) where
-    does_own : (b : UpBundle) → (tree_look c p mk).does x (Own b) ≡ parts_do x (line x mk) b.parts
-    does_own b = ap (λ (m : Bool). if m then parts_do x (line x mk) b.parts else Stays) mine
+  same_parents : (es : List ProcessEvent) (h : List ProcessEvent) → AllByRecursion IsParents es → SameStage h → SameStage (es ++ h)
+  same_parents [] h all e = e
+  same_parents (Sends k u d ∷ es) h all e = same_parents es h all.1 e
+  same_parents (Accepts k w ∷ es) h all e = same_parents es h all.1 e
+  same_parents (Reverts k w d ∷ es) h all e = stage_back (begin c p x fld).stage k (field_look.value_in w) (field_look.content_in d) (trace_for (view.look x fld mk) (es ++ h)) ∙ same_parents es h all.1 e
+  same_parents (Ignores k w ∷ es) h all e = same_parents es h all.1 e
+  same_parents (OthersChange k u ∷ es) h all e = same_parents es h all.1 e
+  same_parents (Ends ∷ es) h all e = same_parents es h all.1 e
+  same_parents (_ ∷ es) h all e = absurd all.0
 
-    tells_down : (d : DownBundle) → (tree_look c p mk).tells x d ≡ parts_tell x (line x mk) d.parts
-    tells_down d = ap (λ (m : Bool). if m then parts_tell x (line x mk) d.parts else Stays) mine
+  same_wrote : (b : UpBundle) (h : List ProcessEvent) → parts_do x (line x mk) b.parts ≡ Stays → SameStage h → SameStage (Writes (Own b) ∷ h)
+  same_wrote b h stays e = e ∙ ap (λ a. moved a (tree_stage h)) (sym stays)
 
-    same_parents : (es : List ProcessEvent) (h : List ProcessEvent) → AllByRecursion IsParents es → SameStage h → SameStage (es ++ h)
-    same_parents [] h all e = e
-    same_parents (Sends k u d ∷ es) h all e = same_parents es h all.1 e
-    same_parents (Accepts k w ∷ es) h all e = same_parents es h all.1 e
-    same_parents (Reverts k w d ∷ es) h all e = stage_back (begin c p x fld).stage k (field_look.value_in w) (field_look.content_in d) (trace_for (view.look x fld mk) (es ++ h)) ∙ same_parents es h all.1 e
-    same_parents (Ignores k w ∷ es) h all e = same_parents es h all.1 e
-    same_parents (OthersChange k u ∷ es) h all e = same_parents es h all.1 e
-    same_parents (Ends ∷ es) h all e = same_parents es h all.1 e
-    same_parents (_ ∷ es) h all e = absurd all.0
+  pub same_took : (d : Bundle DownBundle) (h : List ProcessEvent) → SameStage h → SameStage (Takes d ∷ h)
+  same_took d h e =
+      content_moves x (line x mk) fld (singles d.content.parts) (field_stage h) ∙ ap (moved (parts_tell x (line x mk) (singles d.content.parts))) e
 
-    same_wrote : (b : UpBundle) (h : List ProcessEvent) → parts_do x (line x mk) b.parts ≡ Stays → SameStage h → SameStage (Writes (Own b) ∷ h)
-    same_wrote b h stays e = e ∙ ap (λ a. moved a (tree_stage h)) (sym (does_own b ∙ stays))
+  same_did : (b : UpBundle) (part : DownPart) (h : List ProcessEvent) → parts_do x (line x mk) b.parts ≡ parts_tell x (line x mk) (singles (part ∷ [])) → SameStage h → SameStage (Writes (Own b) ∷ deed part ∷ h)
+  same_did b part h does e =
+      content_moves x (line x mk) fld (singles (part ∷ [])) (field_stage h) ∙ ap (moved (parts_tell x (line x mk) (singles (part ∷ [])))) e
+      ∙ ap (λ a. moved a (tree_stage h)) (sym does)
 
-    pub same_took : (d : Bundle DownBundle) (h : List ProcessEvent) → SameStage h → SameStage (Takes d ∷ h)
-    same_took d h e =
-        content_moves x (line x mk) fld d.content.parts (field_stage h) ∙ ap (moved (parts_tell x (line x mk) d.content.parts)) e
-        ∙ ap (λ a. moved a (tree_stage h)) (sym (tells_down d.content))
+  -- ---- an entry more
 
-    same_did : (b : UpBundle) (part : DownPart) (h : List ProcessEvent) → parts_do x (line x mk) b.parts ≡ parts_tell x (line x mk) (part ∷ []) → SameStage h → SameStage (Writes (Own b) ∷ deed part ∷ h)
-    same_did b part h does e =
-        content_moves x (line x mk) fld (part ∷ []) (field_stage h) ∙ ap (moved (parts_tell x (line x mk) (part ∷ []))) e
-        ∙ ap (λ a. moved a (tree_stage h)) (sym (does_own b ∙ does))
+  module _ (ms : List Moment) (m : Moment) (e : SameStage (events_of p ms)) where
+    abbrev Next : List ProcessEvent → Type 0
+    Next es = SameStage (es ++ events_of p ms)
 
-    -- ---- an entry more
+    by_parents : (es : List ProcessEvent) → AllByRecursion IsParents es → m.events p ≡ es → Next (m.events p)
+    by_parents es all is = subst Next (sym is) (same_parents es (events_of p ms) all e)
 
-    module _ (ms : List Moment) (m : Moment) (e : SameStage (events_of p ms)) where
-      abbrev Next : List ProcessEvent → Type 0
-      Next es = SameStage (es ++ events_of p ms)
+    same_hears : (b : UpBundle) → Hearing c p ms m b → Next (m.events p)
+    same_hears b (AsMade y a is) = by_parents _ (tt, tt) is.events
+    same_hears b (AsLate y a d is) = by_parents _ (tt, tt) is.events
+    same_hears b (AsDrop y is) = by_parents _ (tt, tt) is.events
+    same_hears b (AsOldDrop y is) = by_parents _ (tt, tt) is.events
+    same_hears b (AsAcks is) = by_parents _ (tt, tt) is.events
+    same_hears b (AsCommit y t ns back is) = by_parents _ (heard_parents (length ms + 1) (Own b) m.answer m.says back) is.events
+    same_hears b (AsOldCommit y t is) = by_parents _ (tt, tt) is.events
+    same_hears b (AsOver is) = by_parents _ (tt, tt) is.events
 
-      by_parents : (es : List ProcessEvent) → AllByRecursion IsParents es → m.events p ≡ es → Next (m.events p)
-      by_parents es all is = subst Next (sym is) (same_parents es (events_of p ms) all e)
+    pub same_stage : Entry c p ms m → SameStage (m.events p ++ events_of p ms)
+    same_stage (Idle is) = by_parents [] tt is.events
+    same_stage (Sets y t b is) = subst Next (sym is.events) (same_wrote b (events_of p ms) (ap (parts_do x (line x mk)) is.sent.parts) e)
+    same_stage (Frames a b is) = subst Next (sym is.events) (same_did b (downs.Create (own_known (seen_now c p (m ∷ ms)) (next_frame p (seen_now c p ms)) a)) (events_of p ms) (ap (parts_do x (line x mk)) is.sent.parts) e)
+    same_stage (Drops y b is) = subst Next (sym is.events) (same_did b (downs.Discard y) (events_of p ms) (ap (parts_do x (line x mk)) is.sent.parts) e)
+    same_stage (TakesOne d rest is) = subst Next (sym is.events)
+        (by_acks (λ es. Next (es ++ Takes d ∷ [])) (seen_now c p (m ∷ ms)) _ (by_if (AllByRecursion IsAck) (list_any is_kill d.content.parts) [] _ (λ kill. tt) (λ lives. acks_posted p d.content.epoch.0 _ _ d.content.parts []))
+        (same_took d (events_of p ms) e) (λ b acks. same_wrote b (Takes d ∷ events_of p ms) (acks_do x (line x mk) b.parts acks) (same_took d (events_of p ms) e)))
+    same_stage (Tells posts is) = by_parents _ (told_parents (length ms + 1) m.says _, tt) is.events
+    same_stage (Killing d is) = by_parents _ (tt, (tt, tt)) is.events
+    same_stage (HearsOne b rest first hears) = same_hears b hears
 
-      same_hears : (b : UpBundle) → Hearing c p ms m b → Next (m.events p)
-      same_hears b (AsMade y a is) = by_parents _ (tt, tt) is.events
-      same_hears b (AsLate y a d is) = by_parents _ (tt, tt) is.events
-      same_hears b (AsDrop y is) = by_parents _ (tt, tt) is.events
-      same_hears b (AsOldDrop y is) = by_parents _ (tt, tt) is.events
-      same_hears b (AsAcks is) = by_parents _ (tt, tt) is.events
-      same_hears b (AsCommit y t ns back is) = by_parents _ (heard_parents (length ms + 1) (Own b) m.answer m.says back) is.events
-      same_hears b (AsOldCommit y t is) = by_parents _ (tt, tt) is.events
-      same_hears b (AsOver is) = by_parents _ (tt, tt) is.events
+  -- ---- what is served
 
-      pub same_stage : Entry c p ms m → SameStage (m.events p ++ events_of p ms)
-      same_stage (Idle is) = by_parents [] tt is.events
-      same_stage (Sets y t b is) = subst Next (sym is.events) (same_wrote b (events_of p ms) (ap (parts_do x (line x mk)) is.sent.parts) e)
-      same_stage (Frames a b is) = subst Next (sym is.events) (same_did b (downs.Create (own_known (seen_now c p (m ∷ ms)) (next_frame p (seen_now c p ms)) a)) (events_of p ms) (ap (parts_do x (line x mk)) is.sent.parts) e)
-      same_stage (Drops y b is) = subst Next (sym is.events) (same_did b (downs.Discard y) (events_of p ms) (ap (parts_do x (line x mk)) is.sent.parts) e)
-      same_stage (TakesOne d rest is) = subst Next (sym is.events)
-          (by_acks (λ es. Next (es ++ Takes d ∷ [])) (seen_now c p (m ∷ ms)) _ (by_if (AllByRecursion IsAck) (list_any is_kill d.content.parts) [] _ (λ kill. tt) (λ lives. acks_posted p d.content.epoch.0 _ _ d.content.parts []))
-          (same_took d (events_of p ms) e) (λ b acks. same_wrote b (Takes d ∷ events_of p ms) (acks_do x (line x mk) b.parts acks) (same_took d (events_of p ms) e)))
-      same_stage (Tells posts is) = by_parents _ (told_parents (length ms + 1) m.says _, tt) is.events
-      same_stage (Killing d is) = by_parents _ (tt, (tt, tt)) is.events
-      same_stage (HearsOne b rest first hears) = same_hears b hears
+  behind_same : (ds : List (Bundle DownBundle)) (s : Stage) → words.stage_behind s (map (bundle_for (λ (d : DownBundle). content_of x (line x mk) fld (singles d.parts))) ds) ≡ stage_behind ((tree_look c p mk).tells x) ds s
+  behind_same [] s = refl
+  behind_same (d ∷ ds) s =
+      ap (λ t. words.stage_behind t (map (bundle_for (λ (d : DownBundle). content_of x (line x mk) fld (singles d.parts))) ds)) (content_moves x (line x mk) fld (singles d.content.parts) s)
+      ∙ behind_same ds (moved (parts_tell x (line x mk) (singles d.content.parts)) s)
 
-    -- ---- what is served
-
-    behind_same : (ds : List (Bundle DownBundle)) (s : Stage) → words.stage_behind s (map (bundle_for (λ (d : DownBundle). content_of x (line x mk) fld d.parts)) ds) ≡ stage_behind ((tree_look c p mk).tells x) ds s
-    behind_same [] s = refl
-    behind_same (d ∷ ds) s =
-        ap (λ t. words.stage_behind t (map (bundle_for (λ (d : DownBundle). content_of x (line x mk) fld d.parts)) ds)) (content_moves x (line x mk) fld d.content.parts s)
-        ∙ behind_same ds (moved (parts_tell x (line x mk) d.content.parts) s)
-        ∙ ap (λ a. stage_behind ((tree_look c p mk).tells x) ds (moved a s)) (sym (tells_down d.content))
-
-    -- while the process wasn't ended, the parent serves what the trees come to
-    pub served_joint : (h : List ProcessEvent) → Flows h → is_ended h ≡ false → Projected (view.look x fld mk) h → SameStage h
-        → words.stage_served (begin c p x fld).stage (trace_for (view.look x fld mk) h) ≡ joint (tree_look c p mk) (tree_begin c p) x h
-    served_joint h flows runs same e =
-        sym (along (begin c p x fld).stage (trace_for (view.look x fld mk) h) same.flows (same.same_end ∙ runs))
-        ∙ ap (words.stage_behind (field_stage h)) same.bundles_wait
-        ∙ behind_same (bundles_waiting h) (field_stage h)
-        ∙ ap (stage_behind ((tree_look c p mk).tells x) (bundles_waiting h)) e
-        ∙ leads (tree_look c p mk) (tree_begin c p) x h flows
+  -- while the process wasn't ended, the parent serves what the trees come to
+  pub served_joint : (h : List ProcessEvent) → Flows h → is_ended h ≡ false → Projected (view.look x fld mk) h → SameStage h
+      → words.stage_served (begin c p x fld).stage (trace_for (view.look x fld mk) h) ≡ joint (tree_look c p mk) (tree_begin c p mk) x h
+  served_joint h flows runs same e =
+      sym (along (begin c p x fld).stage (trace_for (view.look x fld mk) h) same.flows (same.same_end ∙ runs))
+      ∙ ap (words.stage_behind (field_stage h)) same.bundles_wait
+      ∙ behind_same (bundles_waiting h) (field_stage h)
+      ∙ ap (stage_behind ((tree_look c p mk).tells x) (bundles_waiting h)) e
+      ∙ leads (tree_look c p mk) (tree_begin c p mk) x h flows

@@ -1,5 +1,5 @@
 -- Behind every entry, a process that stopped has nothing that waits.
-use Rattle.std.proofs.Common.{◌≡◌, ℕ, ◌+◌, Bool, true, false, ◌||◌, if◌then◌else◌, Option, None, Some, List, [], ◌∷◌, ◌++◌, length, refl, ap, sym, subst, ◌∙◌}
+use Rattle.std.proofs.Common.{◌≡◌, ℕ, ◌+◌, Bool, true, false, ◌||◌, if◌then◌else◌, Option, None, Some, List, map, [], ◌∷◌, ◌++◌, length, refl, ap, sym, subst, ◌∙◌}
 use Rattle.std.specs.Prelude.{is_some}
 use Rattle.std.specs.List.{AllByRecursion, list_any}
 use Rattle.wire_msgs.specs.declared.answer.Answer.{Answer}
@@ -9,16 +9,17 @@ use Rattle.wire_msgs.specs.declared.bundle.UpBundle.{UpBundle}
 use Rattle.wire_msgs.specs.declared.config.Config.{Config}
 use Rattle.wire_msgs.specs.declared.part.DownPart.{DownPart}
 use Rattle.wire_msgs.specs.declared.part.DownPart.TheVariants as downs
+use Rattle.wire_msgs.specs.declared.part.Known.{Known}
 use Rattle.protocol.specs.Bundle.{bundle_for}
 use Rattle.protocol.specs.Fold.{behind_all, after_parts}
 use Rattle.protocol.specs.Order.{in_order}
 use Rattle.protocol.specs.Questions.{Facts}
 use Rattle.protocol.specs.Sayings.{Saying}
 use Rattle.protocol.specs.Seen.{Seen, Doing}
-use Rattle.protocol.specs.Seen.Doing.{Framed, Went, Wrote as OwnWrote, Took}
+use Rattle.protocol.specs.Seen.Doing.{Came, Framed, Went, Wrote as OwnWrote, Took}
 use Rattle.protocol.specs.OwnActs.{next_frame}
 use Rattle.protocol.specs.SeenAfter.{seen_after, with_context}
-use Rattle.protocol.specs.Take.{is_kill, may_come, take_rules, taken_notes, bundle_sent}
+use Rattle.protocol.specs.Take.{is_kill, may_come, take_rules, taken_notes}
 use Rattle.protocol.specs.Take as take
 use Rattle.wire_msgs.specs.declared.note.PartNote.TheVariants as notes
 use Rattle.field_table.specs.Table.{value_in}
@@ -48,6 +49,16 @@ use Rattle.model.proofs.NamesLinks.{all_ordered}
 use Rattle.model.proofs.Stopping.{has_kill, IsNoKill, no_kill, Stops, posted_kinds, stops_same, stops_push, stops_take}
 use Rattle.model.proofs.TreeTake.{behind_part, behind_parts}
 
+-- contexts that come leave it running
+runs_coming : (p : ℕ) (ks : List Known) (s : Seen) → (behind_all (seen_after p) (map Came ks) s).running ≡ s.running
+unfolding behind_all seen_after
+runs_coming p [] s = refl
+runs_coming p (k ∷ ks) s = runs_coming p ks (seen_after p (Came k) s) ∙ by_may (may_come p s k)
+  where
+    by_may : (v : Bool) → (if v then with_context k.context (Some k.group) k.parent k.owned (value_in k.fields) s else s).running ≡ s.running
+    by_may true = refl
+    by_may false = refl
+
 -- a take without a kill leaves it running
 runs_one : (p epoch made : ℕ) (s : Seen) (a : DownPart) → PartFits p made a → is_kill a ≡ false → (behind_part p epoch a s).running ≡ s.running
 unfolding behind_all take.says take.note seen_after
@@ -56,6 +67,7 @@ runs_one p epoch made s (downs.Create k) fits none = by_may (may_come p s k)
     by_may : (v : Bool) → (if v then with_context k.context (Some k.group) k.parent k.owned (value_in k.fields) s else s).running ≡ s.running
     by_may true = refl
     by_may false = refl
+runs_one p epoch made s (downs.Register g ks) fits none = runs_coming p ks s
 runs_one p epoch made s (downs.Discard w) fits none = refl
 runs_one p epoch made s (downs.Commit x d) fits none = by_held (s.holds x)
   where

@@ -1,12 +1,13 @@
 -- A process that stopped has nothing that waits: a kill is the last that is sent.
-use Rattle.std.proofs.Common.{◌≡◌, inl, inr, ℕ, Bool, true, false, List, [], ◌∷◌, ◌++◌, refl, sym, subst, ◌∙◌}
+use Rattle.std.proofs.Common.{◌≡◌, inl, inr, ℕ, ◌==◌, Bool, true, false, List, [], ◌∷◌, ◌++◌, refl, sym, subst, ◌∙◌}
 use Rattle.std.specs.List.{AllByRecursion, list_any}
 use Rattle.wire_msgs.specs.declared.bundle.DownBundle.{DownBundle}
 use Rattle.wire_msgs.specs.declared.config.Config.{Config}
 use Rattle.wire_msgs.specs.declared.part.DownPart.{DownPart}
 use Rattle.wire_msgs.specs.declared.part.DownPart.TheVariants as downs
 use Rattle.protocol.specs.Hear.{frame_known}
-use Rattle.protocol.specs.Questions.{Facts, is_told}
+use Rattle.protocol.specs.ParentActs.{register_of}
+use Rattle.protocol.specs.Questions.{Facts, is_subscribed, is_told}
 use Rattle.protocol.specs.Sayings.{Saying}
 use Rattle.protocol.specs.Sayings.Saying.{Opened, Made, BornDead, Removed, Wrote, Acked, Subscribed, Counted, Sent, Ended}
 use Rattle.protocol.specs.Take.{is_kill}
@@ -15,7 +16,7 @@ use Rattle.traces.specs.Links.{is_ended, bundles_waiting}
 use Rattle.model.specs.Moments.{ProcessEvent}
 use Rattle.model.specs.Parent.{asked}
 use Rattle.model.proofs.Cases.{by_if, true_false}
-use Rattle.model.proofs.Entry.{PostOf, Posted}
+use Rattle.model.proofs.Entry.{PostOf, Posted, tab_known}
 use Rattle.model.proofs.Entry.Posted.{NonePosted, OnePosted}
 
 abbrev pub has_kill : Bundle DownBundle → Bool
@@ -48,10 +49,12 @@ post_kinds f p (Removed w but) ds post = subst (AllByRecursion IsNoKill) (sym po
 post_kinds f p (Wrote x t) ds (inl (is, inl commit)) = subst (AllByRecursion IsNoKill) (sym commit) (tt, tt)
 post_kinds f p (Wrote x t) ds (inl (is, inr none)) = subst (AllByRecursion IsNoKill) (sym none.0) tt
 post_kinds f p (Wrote x t) ds (inr none) = subst (AllByRecursion IsNoKill) (sym none.1) tt
-post_kinds f p (Opened x g is_new q) ds post = subst (AllByRecursion IsNoKill) (sym post) tt
+post_kinds f p (Opened x g is_new q) ds post =
+    subst (AllByRecursion IsNoKill) (sym post) (by_if (AllByRecursion IsNoKill) (is_subscribed f p g) (downs.Create (tab_known p x g q) ∷ []) [] (λ is. (tt, tt)) (λ isnt. tt))
 post_kinds f p (BornDead q x a) ds post = subst (AllByRecursion IsNoKill) (sym post) tt
 post_kinds f p (Acked q x) ds post = subst (AllByRecursion IsNoKill) (sym post) tt
-post_kinds f p (Subscribed q g) ds post = subst (AllByRecursion IsNoKill) (sym post) tt
+post_kinds f p (Subscribed q g) ds post =
+    subst (AllByRecursion IsNoKill) (sym post) (by_if (AllByRecursion IsNoKill) (q == p) (register_of f p g ∷ []) [] (λ is. (tt, tt)) (λ isnt. tt))
 post_kinds f p (Counted q) ds post = subst (AllByRecursion IsNoKill) (sym post) tt
 post_kinds f p (Sent q) ds post = subst (AllByRecursion IsNoKill) (sym post) tt
 post_kinds f p (Ended q cause) ds post = subst (AllByRecursion IsNoKill) (sym post) tt

@@ -1,5 +1,5 @@
 -- What taking the parts of a bundle leaves of a field, part by part.
-use Rattle.std.proofs.Common.{◌≡◌, ◌⊎◌, inl, inr, ℕ, ◌+◌, ◌==◌, Bool, true, false, not, ◌&&◌, if◌then◌else◌, Option, None, Some, List, [], ◌∷◌, ◌++◌, refl, ap, ap₂, sym, subst, ◌∙◌, arith}
+use Rattle.std.proofs.Common.{◌≡◌, ◌⊎◌, inl, inr, ℕ, ◌+◌, ◌==◌, Bool, true, false, not, ◌&&◌, if◌then◌else◌, Option, None, Some, List, [], ◌∷◌, ◌++◌, map, refl, ap, ap₂, sym, subst, ◌∙◌, arith}
 use Rattle.std.specs.Prelude.{nat_lt}
 use Rattle.std.specs.List.{AllByRecursion}
 use Rattle.std.proofs.lemmas.Bool.{le-ltb}
@@ -22,22 +22,23 @@ use Rattle.protocol.specs.Seen.Doing.{Came, Went, Given, Stopped}
 use Rattle.protocol.specs.SeenAfter.{seen_after, with_context}
 use Rattle.protocol.specs.Take.{take_rules, note, says, may_come, taken_mark, taken_notes}
 use Rattle.protocol.proofs.Notes.{marked_value}
-use Rattle.traces.specs.Field.Content.{Begins}
+use Rattle.traces.specs.Field.Content.{Begins, Removes}
 use Rattle.traces.specs.Words.{or_else}
 use Rattle.trees.specs.Look.{Effect}
 use Rattle.trees.specs.Look.Effect.{Stays, Comes, Goes}
 use Rattle.model.specs.Lines.{Making, line, is_among}
 use Rattle.model.specs.Process.{own_asked}
 use Rattle.model.specs.Trees.{both, comes_if, goes_if, parts_tell}
-use Rattle.model.specs.View.{value_for, begun, content_of}
+use Rattle.model.specs.View.{value_for, given, begun, content_of, singles}
 use Rattle.model.proofs.Arranging.{come_all, ComeFirst}
 use Rattle.model.proofs.AskedMore.{own_asked_more}
 use Rattle.model.proofs.Cases.{by_if, true_false, same_context_is, same_swapped}
-use Rattle.model.proofs.Contents.{content_by, content_is, ComesInitially, parts_value, later_none}
+use Rattle.model.proofs.Contents.{content_by, parts_value, later_none}
 use Rattle.model.proofs.DownFits.{ComingFits, IsApart, ComeApart, PartFits}
 use Rattle.model.proofs.FieldFacts.{over_value}
 use Rattle.model.proofs.Holding.{SeenTies, seen_still}
 use Rattle.model.proofs.Lining.{Lined}
+use Rattle.model.proofs.SingleFits.{SingleFits}
 
 -- a value that isn't obsolete
 abbrev pub fresh_of : Bool → Option Value → Option Value
@@ -80,26 +81,34 @@ module _ (c : Config) (p epoch : ℕ) where
   steps (a ∷ parts) s = steps parts (step a s)
 
   module _ (old : List Doing) where
+    -- contexts that come at once come one by one
+    register_steps : (parts : List DownPart) (ks : List Known) (did : List Doing)
+        → steps parts (own_asked c.tabs p (behind_all (λ (e : Doing) did. e ∷ did) (map Came ks) did ++ old)) ≡ steps (map (λ (k : Known). downs.Create k) ks ++ parts) (own_asked c.tabs p (did ++ old))
+    unfolding behind_all
+    register_steps parts [] did = refl
+    register_steps parts (k ∷ ks) did = register_steps parts ks (Came k ∷ did) ∙ ap (steps (map (λ (k : Known). downs.Create k) ks ++ parts)) (own_asked_more c.tabs p (Came k) (did ++ old))
+
     -- what is kept tells them
     pub steps_are : (made : ℕ) (parts : List DownPart) (did : List Doing) → AllByRecursion (PartFits p made) parts
-        → own_asked c.tabs p (after_parts (take_rules p epoch) (λ did. own_asked c.tabs p (did ++ old)) (λ e did. e ∷ did) did parts ++ old) ≡ steps parts (own_asked c.tabs p (did ++ old))
+        → own_asked c.tabs p (after_parts (take_rules p epoch) (λ did. own_asked c.tabs p (did ++ old)) (λ e did. e ∷ did) did parts ++ old) ≡ steps (singles parts) (own_asked c.tabs p (did ++ old))
     unfolding after_parts behind_all note says
     steps_are made [] did kinds = refl
-    steps_are made (downs.Create k ∷ parts) did kinds = steps_are made parts (Came k ∷ did) kinds.1 ∙ ap (steps parts) (own_asked_more c.tabs p (Came k) (did ++ old))
+    steps_are made (downs.Create k ∷ parts) did kinds = steps_are made parts (Came k ∷ did) kinds.1 ∙ ap (steps (singles parts)) (own_asked_more c.tabs p (Came k) (did ++ old))
     steps_are made (downs.Commit y t ∷ parts) did kinds = by_held ((own_asked c.tabs p (did ++ old)).holds y) (steps_are made parts (Given y (fresh (own_asked c.tabs p (did ++ old)) y t) ∷ did) kinds.1) (steps_are made parts did kinds.1)
       where
         by_held : (b : Bool)
             → own_asked c.tabs p (after_parts (take_rules p epoch) (λ did. own_asked c.tabs p (did ++ old)) (λ e did. e ∷ did) (Given y (fresh (own_asked c.tabs p (did ++ old)) y t) ∷ did) parts ++ old)
-            ≡ steps parts (own_asked c.tabs p (Given y (fresh (own_asked c.tabs p (did ++ old)) y t) ∷ did ++ old))
-            → own_asked c.tabs p (after_parts (take_rules p epoch) (λ did. own_asked c.tabs p (did ++ old)) (λ e did. e ∷ did) did parts ++ old) ≡ steps parts (own_asked c.tabs p (did ++ old))
+            ≡ steps (singles parts) (own_asked c.tabs p (Given y (fresh (own_asked c.tabs p (did ++ old)) y t) ∷ did ++ old))
+            → own_asked c.tabs p (after_parts (take_rules p epoch) (λ did. own_asked c.tabs p (did ++ old)) (λ e did. e ∷ did) did parts ++ old) ≡ steps (singles parts) (own_asked c.tabs p (did ++ old))
             → own_asked c.tabs p (after_parts (take_rules p epoch) (λ did. own_asked c.tabs p (did ++ old)) (λ e did. e ∷ did)
             (behind_all (λ e did. e ∷ did) (says (downs.Commit y t) (if b then Rattle.wire_msgs.specs.declared.note.PartNote.TheVariants.Commit y (taken_notes epoch (own_asked c.tabs p (did ++ old)) y t)
             else Rattle.wire_msgs.specs.declared.note.PartNote.TheVariants.CommitIgnored y)) did) parts ++ old)
-            ≡ steps parts (if b then seen_after p (Given y (fresh (own_asked c.tabs p (did ++ old)) y t)) (own_asked c.tabs p (did ++ old)) else own_asked c.tabs p (did ++ old))
-        by_held true given same = given ∙ ap (steps parts) (own_asked_more c.tabs p (Given y (fresh (own_asked c.tabs p (did ++ old)) y t)) (did ++ old))
+            ≡ steps (singles parts) (if b then seen_after p (Given y (fresh (own_asked c.tabs p (did ++ old)) y t)) (own_asked c.tabs p (did ++ old)) else own_asked c.tabs p (did ++ old))
+        by_held true given same = given ∙ ap (steps (singles parts)) (own_asked_more c.tabs p (Given y (fresh (own_asked c.tabs p (did ++ old)) y t)) (did ++ old))
         by_held false given same = same
-    steps_are made (downs.Discard w ∷ parts) did kinds = steps_are made parts (Went w ∷ did) kinds.1 ∙ ap (steps parts) (own_asked_more c.tabs p (Went w) (did ++ old))
-    steps_are made (downs.Kill ∷ parts) did kinds = steps_are made parts (Stopped ∷ did) kinds.1 ∙ ap (steps parts) (own_asked_more c.tabs p Stopped (did ++ old))
+    steps_are made (downs.Discard w ∷ parts) did kinds = steps_are made parts (Went w ∷ did) kinds.1 ∙ ap (steps (singles parts)) (own_asked_more c.tabs p (Went w) (did ++ old))
+    steps_are made (downs.Kill ∷ parts) did kinds = steps_are made parts (Stopped ∷ did) kinds.1 ∙ ap (steps (singles parts)) (own_asked_more c.tabs p Stopped (did ++ old))
+    steps_are made (downs.Register g ks ∷ parts) did kinds = steps_are made parts (behind_all (λ (e : Doing) did. e ∷ did) (map Came ks) did) kinds.1 ∙ register_steps (singles parts) ks did
     steps_are made (_ ∷ parts) did kinds = absurd kinds.0
 
   module _ (mk : List Making) (l : Lined mk) (x : ContextId) (fld : Field) (made : ℕ) where
@@ -189,7 +198,7 @@ module _ (c : Config) (p epoch : ℕ) where
     not_goes Goes b no_go e = no_go refl
     not_goes Comes b no_go e = no_go (ap (both Comes) e)
 
-    pub held_steps : (parts : List DownPart) (s : Seen) → AllByRecursion (ComingFits c p mk) (come_all parts) → AllByRecursion (PartFits p made) parts → SeenTies c.tabs p mk s → s.holds x ≡ true
+    pub held_steps : (parts : List DownPart) (s : Seen) → AllByRecursion (ComingFits c p mk) (come_all parts) → AllByRecursion (SingleFits p made) parts → SeenTies c.tabs p mk s → s.holds x ≡ true
         → (parts_tell x (line x mk) parts ≡ Goes → ⊥) → StaysHeld parts s (steps parts s)
     unfolding seen_after
     held_steps [] s come kinds t held kept = record { holds = held; value = ap (λ o. or_later o (s.value x fld)) (none_fresh (nat_lt epoch (s.newest x fld))); newest = refl }
@@ -257,7 +266,7 @@ module _ (c : Config) (p epoch : ℕ) where
     unfolding seen_after
     unheld_stopped s e = e
 
-    pub unheld_steps : (parts : List DownPart) (s : Seen) → AllByRecursion (PartFits p made) parts → NoneOf (come_all parts) → s.holds x ≡ false → (steps parts s).holds x ≡ false
+    pub unheld_steps : (parts : List DownPart) (s : Seen) → AllByRecursion (SingleFits p made) parts → NoneOf (come_all parts) → s.holds x ≡ false → (steps parts s).holds x ≡ false
     unheld_steps [] s kinds none e = e
     unheld_steps (downs.Create k ∷ parts) s kinds none e = unheld_steps parts (step (downs.Create k) s) kinds.1 none.1 ((other_came k s none.0).holds ∙ e)
     unheld_steps (downs.Commit y d ∷ parts) s kinds none e = unheld_steps parts (step (downs.Commit y d) s) kinds.1 none (unheld_given y d s e)
@@ -301,7 +310,7 @@ module _ (c : Config) (p epoch : ℕ) where
     unfolding seen_after
     unvalued_stopped s u = u
 
-    pub unvalued_steps : (parts : List DownPart) (s : Seen) → AllByRecursion (PartFits p made) parts → (s.holds x ≡ false → s.value x fld ≡ None) → (steps parts s).holds x ≡ false → (steps parts s).value x fld ≡ None
+    pub unvalued_steps : (parts : List DownPart) (s : Seen) → AllByRecursion (SingleFits p made) parts → (s.holds x ≡ false → s.value x fld ≡ None) → (steps parts s).holds x ≡ false → (steps parts s).value x fld ≡ None
     unvalued_steps [] s kinds u = u
     unvalued_steps (downs.Create k ∷ parts) s kinds u = unvalued_steps parts (step (downs.Create k) s) kinds.1 (unvalued_came k s u)
     unvalued_steps (downs.Commit y d ∷ parts) s kinds u = unvalued_steps parts (step (downs.Commit y d) s) kinds.1 (unvalued_given y d s u)
@@ -310,10 +319,6 @@ module _ (c : Config) (p epoch : ℕ) where
     unvalued_steps (_ ∷ parts) s kinds u = absurd kinds.0
 
     -- ---- a context that comes
-
-    none_of_initial : (ks : List Known) → NoneOf ks → AllByRecursion (ComesInitially x fld) ks
-    none_of_initial [] none = tt
-    none_of_initial (k ∷ ks) none = ((λ e. true_false (same_context x k.context) e none.0), none_of_initial ks none.1)
 
     pub none_tells : (parts : List DownPart) → NoneOf (come_all parts) → parts_tell x (line x mk) parts ≡ Comes → ⊥
     none_tells [] none e = absurd cc
@@ -332,14 +337,30 @@ module _ (c : Config) (p epoch : ℕ) where
     none_tells (downs.Reply q outcome ∷ parts) none e = none_tells parts none e
     none_tells (downs.Kill ∷ parts) none e = none_tells parts none e
 
+    given_stays : (o p : Option Value) (v : Value) → given o (content_by Stays p v) ≡ content_by Stays (or_later p o) v
+    given_stays None None v = refl
+    given_stays None (Some u) v = refl
+    given_stays (Some w) None v = refl
+    given_stays (Some w) (Some u) v = refl
+
+    with_none : (parts : List DownPart) → content_by Stays (parts_value x fld parts) (initial fld) ≡ content_by Stays (or_later (parts_value x fld parts) None) (initial fld)
+    with_none parts = ap (λ o. content_by Stays o (initial fld)) (sym (later_none (parts_value x fld parts)))
+
     -- what is held and isn't named holds no more than values
     pub content_held : (parts : List DownPart) → ComeFirst parts → NoneOf (come_all parts) → (parts_tell x (line x mk) parts ≡ Goes → ⊥) → content_of x (line x mk) fld parts ≡ content_by Stays (parts_value x fld parts) (initial fld)
-    content_held parts first none kept = content_is x (line x mk) fld parts first (none_of_initial (come_all parts) none) ∙ ap (λ e. content_by e (parts_value x fld parts) (initial fld)) (stays (parts_tell x (line x mk) parts) (none_tells parts none) kept)
+    content_held [] first none kept = refl
+    content_held (downs.Create k ∷ parts) first none kept =
+        ap (λ (b : Bool). if b then begun (value_in k.fields fld) (content_of x (line x mk) fld parts) else content_of x (line x mk) fld parts) none.0
+        ∙ content_held parts first.1 none.1 (not_goes (comes_if (same_context x k.context)) (parts_tell x (line x mk) parts) kept) ∙ with_none parts
+    content_held (downs.Commit y t ∷ parts) first none kept =
+        ap (given (value_for x fld y t)) (content_held parts first.1 none kept) ∙ given_stays (value_for x fld y t) (parts_value x fld parts) (initial fld)
+    content_held (downs.Discard w ∷ parts) first none kept = by_line (is_among w (line x mk)) (content_held parts first.1 none) kept
       where
-        stays : (e : Effect) → (e ≡ Comes → ⊥) → (e ≡ Goes → ⊥) → e ≡ Stays
-        stays Stays no_come no_go = refl
-        stays Comes no_come no_go = absurd (no_come refl)
-        stays Goes no_come no_go = absurd (no_go refl)
+        by_line : (v : Bool) → ((parts_tell x (line x mk) parts ≡ Goes → ⊥) → content_of x (line x mk) fld parts ≡ content_by Stays (parts_value x fld parts) (initial fld)) → (both (goes_if v) (parts_tell x (line x mk) parts) ≡ Goes → ⊥)
+            → (if v then Removes else content_of x (line x mk) fld parts) ≡ content_by Stays (or_later (parts_value x fld parts) None) (initial fld)
+        by_line true rest kept = absurd (kept refl)
+        by_line false rest kept = rest kept ∙ with_none parts
+    content_held (_ ∷ parts) first none kept = content_held parts first.1 none kept ∙ with_none parts
 
     pub record HasCome (parts : List DownPart) (after : Seen) : Type 0 where
       pub first_value : Value
@@ -351,11 +372,11 @@ module _ (c : Config) (p epoch : ℕ) where
     apart_none k [] is all = tt
     apart_none k (j ∷ ks) is all = (ap (λ z. same_context z j.context) (same_context_is x k.context is) ∙ same_swapped k.context j.context ∙ all.0.other, apart_none k ks is all.1)
 
-    no_stop : {A : Type 0} (parts : List DownPart) (s : Seen) → AllByRecursion (PartFits p made) parts → come_all parts ≡ [] → s.holds x ≡ false → (steps parts s).holds x ≡ true → A
+    no_stop : {A : Type 0} (parts : List DownPart) (s : Seen) → AllByRecursion (SingleFits p made) parts → come_all parts ≡ [] → s.holds x ≡ false → (steps parts s).holds x ≡ true → A
     no_stop parts s kinds none e held = true_false ((steps parts s).holds x) held (unheld_steps parts s kinds (subst NoneOf (sym none) tt) e)
 
     -- it comes by this part, and holds what the rest gives it
-    begins : (k : Known) (parts : List DownPart) (s : Seen) → ComeFirst parts → AllByRecursion (ComingFits c p mk) (come_all parts) → AllByRecursion (PartFits p made) parts → NoneOf (come_all parts) → same_context x k.context ≡ true
+    begins : (k : Known) (parts : List DownPart) (s : Seen) → ComeFirst parts → AllByRecursion (ComingFits c p mk) (come_all parts) → AllByRecursion (SingleFits p made) parts → NoneOf (come_all parts) → same_context x k.context ≡ true
         → SeenTies c.tabs p mk (seen_after p (Came k) s) → s.holds x ≡ false → (parts_tell x (line x mk) parts ≡ Goes → ⊥) → (steps parts (seen_after p (Came k) s)).holds x ≡ true → HasCome (downs.Create k ∷ parts) (steps parts (seen_after p (Came k) s))
     unfolding seen_after
     begins k parts s first come kinds none is t unheld kept held = by_come (may_come p s k) t held
@@ -383,7 +404,7 @@ module _ (c : Config) (p epoch : ℕ) where
               newest = r.newest ∙ newest_is;
             }
 
-    pub come_steps : (parts : List DownPart) (s : Seen) → ComeFirst parts → ComeApart (come_all parts) → AllByRecursion (ComingFits c p mk) (come_all parts) → AllByRecursion (PartFits p made) parts → SeenTies c.tabs p mk s
+    pub come_steps : (parts : List DownPart) (s : Seen) → ComeFirst parts → ComeApart (come_all parts) → AllByRecursion (ComingFits c p mk) (come_all parts) → AllByRecursion (SingleFits p made) parts → SeenTies c.tabs p mk s
         → s.holds x ≡ false → (parts_tell x (line x mk) parts ≡ Goes → ⊥) → (steps parts s).holds x ≡ true → HasCome parts (steps parts s)
     come_steps [] s first apart come kinds t unheld kept held = true_false (s.holds x) held unheld
     come_steps (downs.Create k ∷ parts) s first apart come kinds t unheld kept held =

@@ -1,5 +1,4 @@
--- What the parent says in one entry, as it concerns the trees of a process: what comes was new, what goes takes all
--- below it, and who owns what is made.
+-- What the parent says in one entry: what comes was new, and what goes takes all below it.
 use Rattle.std.proofs.Common.{◌≡◌, ◌⊎◌, inl, inr, ℕ, Bool, true, false, ◌||◌, Option, Some, List, [], ◌∷◌, ◌++◌, refl, ap, sym, subst, ◌∙◌}
 use Rattle.std.specs.List.{AllByRecursion}
 use Rattle.fission_ids.specs.declared.context.ContextId.{ContextId}
@@ -8,7 +7,6 @@ use Rattle.wire_msgs.specs.declared.config.Config.{Config}
 use Rattle.protocol.specs.Questions.{Facts}
 use Rattle.protocol.specs.Sayings.{Saying}
 use Rattle.protocol.specs.Sayings.Saying.{Opened, Made, BornDead, Removed, Wrote, Acked, Subscribed, Counted, Sent, Ended}
-use Rattle.protocol.specs.Start.{is_held_at_start}
 use Rattle.traces.specs.Words.{Stage}
 use Rattle.traces.specs.Words.Stage.{Coming}
 use Rattle.trees.specs.Look.{Effect, moved}
@@ -16,21 +14,19 @@ use Rattle.trees.specs.Look.Effect.{Stays, Comes, Goes}
 use Rattle.trees.specs.Words.{is_held}
 use Rattle.model.specs.Lines.{Making, makings_said, line, above_in, is_among}
 use Rattle.model.specs.Parent.{asked}
-use Rattle.model.specs.Trees.{comes_if, goes_if, both, says_do, says_create, is_of_its_tabs}
+use Rattle.model.specs.Trees.{comes_if, goes_if, both, says_do, says_create}
 use Rattle.model.proofs.Cases.{true_false, same_context_is}
 use Rattle.model.proofs.Entry.{FitsOver}
-use Rattle.model.proofs.Fitting.{SayingFits, MadeFits, FactsTies}
+use Rattle.model.proofs.Fitting.{SayingFits, MadeFits, OpenedFits, FactsTies}
 use Rattle.model.proofs.Lining.{Lined, IsToldBy}
-use Rattle.model.proofs.Living.{LifeTies, both_stays, both_comes, both_goes, goes_later, comes_when, goes_when, says_one, says_more, in_line, was_coming, facts_all, life_all}
+use Rattle.model.proofs.Living.{LifeTies, both_stays, both_comes, both_goes, goes_later, comes_when, goes_when, says_one, says_more, in_line, was_coming, top_was_coming, opened_new, opened_top, facts_all, life_all}
 
 -- ---- what a saying is by its effect
 
--- a frame was made in time, by this process and in this context
-pub record IsMaking (f : Facts) (y : Saying) (x : ContextId) : Type 0 where
-  pub maker : ℕ
-  pub below : ContextId
-  pub is : y ≡ Made maker x below
-  pub fits : MadeFits f maker x below
+-- a frame was made in time, by this process and in this context, or a tab's context was made
+pub data IsMaking (f : Facts) (y : Saying) (x : ContextId) : Type 0 where
+  AsFrame : (maker : ℕ) (below : ContextId) → y ≡ Made maker x below → MadeFits f maker x below → IsMaking f y x
+  AsTab : (owner : ℕ) → OpenedFits f x owner → IsMaking f y x
 
 -- a context was removed, with all below it
 pub record IsRemoval (f : Facts) (y : Saying) (ln : List ContextId) : Type 0 where
@@ -47,10 +43,11 @@ stays_not_goes : {A : Type 0} → Stays ≡ Goes → A
 stays_not_goes e = absurd cc
 
 pub making : (f : Facts) (mk : List Making) (x : ContextId) (y : Saying) → SayingFits f y → says_one mk x y ≡ Comes → IsMaking f y x
-making f mk x (Opened y g is_new p) fits e = absurd fits
+making f mk x (Opened y g is_new p) fits e =
+    AsTab p (subst (λ z. OpenedFits f z p) (sym (same_context_is x y (comes_when (same_context x y) (sym (both_stays (comes_if (same_context x y))) ∙ e)))) fits)
 making f mk x (Made p y a) fits e =
     let is : x ≡ y = same_context_is x y (comes_when (same_context x y) (sym (both_stays (comes_if (same_context x y))) ∙ e)) in
-    record { maker = p; below = a; is = ap (λ z. Made p z a) (sym is); fits = subst (λ z. MadeFits f p z a) (sym is) fits }
+    AsFrame p a (ap (λ z. Made p z a) (sym is)) (subst (λ z. MadeFits f p z a) (sym is) fits)
 making f mk x (BornDead p y a) fits e = stays_never e
 making f mk x (Removed w but) fits e = by_test (is_among w (line x mk)) e
   where
@@ -65,7 +62,11 @@ making f mk x (Sent p) fits e = stays_never e
 making f mk x (Ended p cause) fits e = stays_never e
 
 pub removal : (f : Facts) (mk : List Making) (x : ContextId) (y : Saying) → SayingFits f y → says_one mk x y ≡ Goes → IsRemoval f y (line x mk)
-removal f mk x (Opened y g is_new p) fits e = absurd fits
+removal f mk x (Opened y g is_new p) fits e = by_test (same_context x y) e
+  where
+    by_test : {A : Type 0} (b : Bool) → both (comes_if b) Stays ≡ Goes → A
+    by_test true e = absurd cc
+    by_test false e = stays_not_goes e
 removal f mk x (Made p y a) fits e = by_test (same_context x y) e
   where
     by_test : {A : Type 0} (b : Bool) → both (comes_if b) Stays ≡ Goes → A
@@ -118,13 +119,7 @@ comes_created x mk (y ∷ ys) e = by_one (both_comes (says_one mk x y) (says_do 
 
 -- ---- an entry
 
-module _ (c : Config) (p : ℕ) (mk : List Making) (l : Lined mk) (old : List Saying) (ft : FactsTies c.tabs mk (asked c.tabs old)) where
-  abbrev mine : ContextId → Bool
-  mine = is_of_its_tabs c p mk
-
-  pub mine_above : (x a : ContextId) → above_in mk x ≡ Some a → is_of_its_tabs c p mk x ≡ is_of_its_tabs c p mk a
-  mine_above x a up = ap (is_held_at_start c.tabs p) (l.root_step x a up)
-
+module _ (c : Config) (mk : List Making) (l : Lined mk) (old : List Saying) (ft : FactsTies c.tabs mk (asked c.tabs old)) where
   -- these are said of makings that are told, and fit
   pub record Saids (ys : List Saying) : Type 0 where
     pub told : AllByRecursion (IsToldBy mk) (makings_said ys)
@@ -134,16 +129,17 @@ module _ (c : Config) (p : ℕ) (mk : List Making) (l : Lined mk) (old : List Sa
   saids_before y ys s = record { told = rest y s.told; fits = s.fits.1 }
     where
       rest : (y : Saying) → AllByRecursion (IsToldBy mk) (makings_said (y ∷ ys)) → AllByRecursion (IsToldBy mk) (makings_said ys)
+      rest (Opened x g is_new q) all = all.1
       rest (Made q x a) all = all.1
       rest (BornDead q x a) all = all.1
       rest (_) all = all
 
   pub facts_behind : (ys : List Saying) → Saids ys → FactsTies c.tabs mk (asked c.tabs (ys ++ old))
-  facts_behind ys s = facts_all c.tabs mine mk l mine_above c refl old ys s.told s.fits ft
+  facts_behind ys s = facts_all c.tabs mk l c refl old ys s.told s.fits ft
 
-  module _ (L : ContextId → Stage) (lt : LifeTies (is_of_its_tabs c p mk) mk (asked c.tabs old) L) where
-    pub lives_behind : (ys : List Saying) → Saids ys → LifeTies (is_of_its_tabs c p mk) mk (asked c.tabs (ys ++ old)) (λ z. moved (says_do z (line z mk) ys) (L z))
-    lives_behind ys s = life_all c.tabs mine mk l mine_above c refl old L ys s.told s.fits ft lt
+  module _ (L : ContextId → Stage) (lt : LifeTies mk (asked c.tabs old) L) where
+    pub lives_behind : (ys : List Saying) → Saids ys → LifeTies mk (asked c.tabs (ys ++ old)) (λ z. moved (says_do z (line z mk) ys) (L z))
+    lives_behind ys s = life_all c.tabs mk l c refl old L ys s.told s.fits ft lt
 
     told_above : (y : Saying) (ys : List Saying) (q : ℕ) (x a : ContextId) → Saids (y ∷ ys) → y ≡ Made q x a → above_in mk x ≡ Some a
     told_above y ys q x a s is = go (subst (λ z. AllByRecursion (IsToldBy mk) (makings_said (z ∷ ys))) is s.told)
@@ -152,23 +148,27 @@ module _ (c : Config) (p : ℕ) (mk : List Making) (l : Lined mk) (old : List Sa
         go all = all.0
 
     -- what comes was coming
-    pub comes_new : (x : ContextId) (ys : List Saying) → Saids ys → is_of_its_tabs c p mk x ≡ true → says_do x (line x mk) ys ≡ Comes → L x ≡ Coming
-    comes_new x [] s m e = stays_never e
-    comes_new x (y ∷ ys) s m e = by_one (both_comes (says_one mk x y) (says_do x (line x mk) ys) (sym (says_more mk x y ys) ∙ e)) (comes_new x ys (saids_before y ys s) m)
+    pub comes_new : (x : ContextId) (ys : List Saying) → Saids ys → says_do x (line x mk) ys ≡ Comes → L x ≡ Coming
+    comes_new x [] s e = stays_never e
+    comes_new x (y ∷ ys) s e = by_one (both_comes (says_one mk x y) (says_do x (line x mk) ys) (sym (says_more mk x y ys) ∙ e)) (comes_new x ys (saids_before y ys s))
       where
+        by_making : IsMaking (asked c.tabs (ys ++ old)) y x → moved (says_do x (line x mk) ys) (L x) ≡ Coming
+        by_making (AsFrame maker below is fits) =
+            was_coming c.tabs mk l (asked c.tabs (ys ++ old)) (λ z. moved (says_do z (line z mk) ys) (L z)) x below (lives_behind ys (saids_before y ys s)) fits.new
+            (told_above y ys maker x below s is) fits.live
+        by_making (AsTab owner fits) =
+            top_was_coming c.tabs mk l (asked c.tabs (ys ++ old)) (λ z. moved (says_do z (line z mk) ys) (L z)) x (lives_behind ys (saids_before y ys s))
+            (opened_new c.tabs mk (asked c.tabs (ys ++ old)) x owner (facts_behind ys (saids_before y ys s)) fits) (opened_top mk (asked c.tabs (ys ++ old)) x owner l fits)
+
         by_one : ((says_one mk x y ≡ Comes) × (says_do x (line x mk) ys ≡ Stays)) ⊎ (says_do x (line x mk) ys ≡ Comes) → (says_do x (line x mk) ys ≡ Comes → L x ≡ Coming) → L x ≡ Coming
         by_one (inr before) rest = rest before
-        by_one (inl now) rest =
-            let made : IsMaking (asked c.tabs (ys ++ old)) y x = making (asked c.tabs (ys ++ old)) mk x y s.fits.0 now.0 in
-            sym (ap (λ d. moved d (L x)) now.1)
-            ∙ was_coming c.tabs mine mk l mine_above (asked c.tabs (ys ++ old)) (λ z. moved (says_do z (line z mk) ys) (L z)) x made.below (lives_behind ys (saids_before y ys s)) m made.fits.new
-            (told_above y ys made.maker x made.below s made.is) made.fits.live
+        by_one (inl now) rest = sym (ap (λ d. moved d (L x)) now.1) ∙ by_making (making (asked c.tabs (ys ++ old)) mk x y s.fits.0 now.0)
 
     -- what goes unmade goes with the one above
-    pub goes_along : (x : ContextId) (ys : List Saying) → Saids ys → is_of_its_tabs c p mk x ≡ true → says_create x ys ≡ false → says_do x (line x mk) ys ≡ Goes → L x ≡ Coming
+    pub goes_along : (x : ContextId) (ys : List Saying) → Saids ys → says_create x ys ≡ false → says_do x (line x mk) ys ≡ Goes → L x ≡ Coming
         → (a : ContextId) × (above_in mk x ≡ Some a) × (says_do a (line a mk) ys ≡ Goes)
-    goes_along x [] s m unmade e new = stays_not_goes e
-    goes_along x (y ∷ ys) s m unmade e new = by_one (both_goes (says_one mk x y) (says_do x (line x mk) ys) (sym (says_more mk x y ys) ∙ e)) (goes_along x ys (saids_before y ys s) m (unmade_before y unmade))
+    goes_along x [] s unmade e new = stays_not_goes e
+    goes_along x (y ∷ ys) s unmade e new = by_one (both_goes (says_one mk x y) (says_do x (line x mk) ys) (sym (says_more mk x y ys) ∙ e)) (goes_along x ys (saids_before y ys s) (unmade_before y unmade))
       where
         right_false : (u v : Bool) → (u || v) ≡ false → v ≡ false
         right_false true v e = absurd cc
@@ -185,7 +185,7 @@ module _ (c : Config) (p : ℕ) (mk : List Making) (l : Lined mk) (old : List Sa
         still_dead live = by_effect (says_do x (line x mk) ys) refl
           where
             held : is_held (moved (says_do x (line x mk) ys) (L x)) ≡ true
-            held = (lives_behind ys (saids_before y ys s)).live x m ∙ live
+            held = (lives_behind ys (saids_before y ys s)).live x ∙ live
 
             by_effect : (d : Effect) → says_do x (line x mk) ys ≡ d → says_do x (line x mk) ys ≡ Comes
             by_effect Comes is = is

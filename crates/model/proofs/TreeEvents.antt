@@ -1,4 +1,4 @@
--- The events of a process as its trees see them: up to its end all of them, and then what it does and takes itself.
+-- The events of a process as the trees see them: up to its end all of them, and then what it does and takes itself.
 use Rattle.std.proofs.Common.{◌≡◌, ◌+◌, Bool, true, false, if◌then◌else◌, List, [], ◌∷◌, ◌++◌, drop, refl, ap, ap₂, sym, ◌∙◌}
 use Rattle.traces.specs.Event.Event.{Writes, Sends, Takes, Accepts, Reverts, Ignores, Changes, Does, Ends, Rests}
 use Rattle.traces.specs.Links.{hears, takes, bundles_sent, bundles_waiting, writes_waiting, is_ended}

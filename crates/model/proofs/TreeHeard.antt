@@ -1,9 +1,11 @@
--- What the parent hears of a process that wasn't ended keeps the rules of its trees, and what the parent answers of
+-- What the parent hears of a process that wasn't ended keeps the rules of the trees, and what the parent answers of
 -- them is still what the events of the process tell.
 use Rattle.std.proofs.Common.{◌≡◌, ◌⊎◌, inl, inr, ℕ, ◌+◌, ◌<◌, ◌==◌, Bool, true, false, ◌&&◌, ◌||◌, if◌then◌else◌, Option, None, Some, List, [], ◌∷◌, ◌++◌, length, refl, ap, ap₂, sym, subst, ◌∙◌, arith, eq-eqb}
+use Rattle.std.proofs.Math.Path.{fun_ext}
 use Rattle.std.specs.List.{AllByRecursion, list_any}
 use Rattle.std.specs.Prelude.{is_some, nat_lt, nat_le}
 use Rattle.fission_ids.specs.declared.context.ContextId.{ContextId}
+use Rattle.fission_ids.specs.declared.group.GroupId.{GroupId}
 use Rattle.fission_ids.specs.Ids.{same_context}
 use Rattle.transaction.specs.Transaction.{Changes}
 use Rattle.wire_msgs.specs.declared.answer.Answer.{Answer}
@@ -20,10 +22,9 @@ use Rattle.protocol.specs.Bundle.{bundle_for}
 use Rattle.protocol.specs.Commits.{applied, sent_back}
 use Rattle.protocol.specs.FactsAfter.{facts_after}
 use Rattle.protocol.specs.Hear.{commit_unless_empty, values_where, is_noted, is_reverted}
-use Rattle.protocol.specs.Questions.{Facts, is_owner}
+use Rattle.protocol.specs.Questions.{Facts, is_owner, is_subscribed}
 use Rattle.protocol.specs.Sayings.{Saying}
 use Rattle.protocol.specs.Sayings.Saying.{Opened, Made, BornDead, Removed, Wrote, Acked, Subscribed, Counted, Sent, Ended}
-use Rattle.protocol.specs.Start.{is_held_at_start}
 use Rattle.traces.specs.Event.Event.{Accepts, Reverts, Ignores}
 use Rattle.traces.specs.Links.{writes_waiting, is_ended}
 use Rattle.traces.specs.Rules.{IsFirst, Flows}
@@ -36,26 +37,29 @@ use Rattle.trees.specs.Look.Handing.{Same, Given}
 use Rattle.trees.specs.Rules.{Above, Done, GivesBack, Returned, Ignored, Fit, Keeps, told_owner}
 use Rattle.trees.specs.Words.{is_told, life, is_held, is_known}
 use Rattle.trees.proofs.Above.{life_below}
+use Rattle.trees.proofs.Agrees.{told_above}
 use Rattle.trees.proofs.Effects.{gone_behind}
 use Rattle.trees.proofs.Knowing.{good_ids}
+use Rattle.trees.proofs.Order.{wrote_told}
 use Rattle.trees.proofs.Taking.{known_came}
 use Rattle.model.specs.Lines.{Making, makings_said, line, above_in, is_among}
 use Rattle.model.specs.Moments.{Moment, Written, ProcessEvent, said, events_of, facts_now, heard, is_done}
 use Rattle.model.specs.Moments.Written.{Own}
 use Rattle.model.specs.Parent.{asked}
-use Rattle.model.specs.Trees.{comes_if, goes_if, both, later_hand, hand_if, parts_do, parts_hand, parts_create, parts_need, parts_tell, parts_bring, parts_handed, handed_unless, says_do, says_hand, says_create, is_of_its_tabs, tree_look, tree_begin}
+use Rattle.model.specs.Trees.{comes_if, goes_if, both, later_hand, hand_if, parts_do, parts_hand, parts_create, parts_need, parts_tell, parts_bring, parts_handed, handed_unless, says_do, says_hand, says_create, tree_look, tree_begin}
+use Rattle.model.specs.View.{singles}
 use Rattle.model.proofs.AskedMore.{asked_more}
 use Rattle.model.proofs.Cases.{by_if, true_false, same_context_is, same_itself, some_is, none_some}
 use Rattle.model.proofs.Entry.{FitsOver, IsSending, IsAck, IsAcking, Says, HeardMade, HeardLate, HeardDrop, HeardOldDrop, HeardAcks, HeardCommit, HeardOldCommit, Hearing}
 use Rattle.model.proofs.Entry.Hearing.{AsMade, AsLate, AsDrop, AsOldDrop, AsAcks, AsCommit, AsOldCommit, AsOver}
 use Rattle.model.proofs.Fitting.{FactsTies}
 use Rattle.model.proofs.Lining.{Lined, IsToldBy}
-use Rattle.model.proofs.Living.{LifeTies, both_stays, goes_when, comes_when, in_line, among_itself, root_of, up_the_line}
-use Rattle.model.proofs.Owning.{IsNoEndOf, owner_all, owner_mine, created_new, handed_created}
-use Rattle.model.proofs.Telling.{Saids, facts_behind, lives_behind, comes_new, goes_along, mine_above}
+use Rattle.model.proofs.Living.{LifeTies, both_stays, goes_when, comes_when, in_line, among_itself, up_the_line, held_only}
+use Rattle.model.proofs.Owning.{IsNoEndOf, owner_all, created_new, handed_created}
+use Rattle.model.proofs.Subscribers.{group_told}
+use Rattle.model.proofs.Telling.{Saids, facts_behind, lives_behind, comes_new, goes_along}
 use Rattle.model.proofs.TreeFacts.{TreeFacts}
 use Rattle.model.proofs.TreeLawful.{lawful}
-use Rattle.model.proofs.TreeTold.{told_alive}
 
 -- ---- what is named as made, in time or too late, is all that becomes known
 
@@ -100,6 +104,32 @@ pub known_is : (c : Config) (old ys : List Saying) (x : ContextId) → (asked c.
 known_is c old [] x = refl
 known_is c old (y ∷ ys) x = ap (λ (g : Facts). g.contexts.known x) (asked_more c.tabs y (ys ++ old)) ∙ known_one (asked c.tabs (ys ++ old)) y ys x ((asked c.tabs old).contexts.known x) (known_is c old ys x)
 
+-- ---- who is subscribed stays so where none is subscribed and none is ended
+
+abbrev pub IsQuiet : Saying → Type 0
+IsQuiet (Subscribed q g) = ⊥
+IsQuiet (Ended q cause) = ⊥
+IsQuiet y = Unit {0}
+
+subscribed_one : (f : Facts) (p : ℕ) (g : GroupId) (y : Saying) → IsQuiet y → is_subscribed (facts_after y f) p g ≡ is_subscribed f p g
+unfolding facts_after
+subscribed_one f p g (Opened z h true q) quiet = refl
+subscribed_one f p g (Opened z h false q) quiet = refl
+subscribed_one f p g (Made q z a) quiet = refl
+subscribed_one f p g (BornDead q z a) quiet = refl
+subscribed_one f p g (Removed w but) quiet = refl
+subscribed_one f p g (Wrote z t) quiet = refl
+subscribed_one f p g (Acked q z) quiet = refl
+subscribed_one f p g (Counted q) quiet = refl
+subscribed_one f p g (Sent q) quiet = refl
+subscribed_one f p g (Subscribed q h) quiet = absurd quiet
+subscribed_one f p g (Ended q cause) quiet = absurd quiet
+
+pub subscribed_still : (c : Config) (p : ℕ) (old : List Saying) (g : GroupId) (ys : List Saying) → AllByRecursion IsQuiet ys → is_subscribed (asked c.tabs (ys ++ old)) p g ≡ is_subscribed (asked c.tabs old) p g
+subscribed_still c p old g [] quiet = refl
+subscribed_still c p old g (y ∷ ys) quiet =
+    ap (λ (f : Facts). is_subscribed f p g) (asked_more c.tabs y (ys ++ old)) ∙ subscribed_one (asked c.tabs (ys ++ old)) p g y quiet.0 ∙ subscribed_still c p old g ys quiet.1
+
 -- ---- what is said beside the core of an entry does nothing to a tree
 
 pub record Like (c : Config) (p : ℕ) (old ys core : List Saying) : Type 0 where
@@ -109,6 +139,7 @@ pub record Like (c : Config) (p : ℕ) (old ys core : List Saying) : Type 0 wher
   pub names : (x : ContextId) → says_name x ys ≡ says_name x core
   pub fits : FitsOver c old core → FitsOver c old ys
   pub alive : AllByRecursion (IsNoEndOf p) core → AllByRecursion (IsNoEndOf p) ys
+  pub quiet : AllByRecursion IsQuiet core → AllByRecursion IsQuiet ys
 
 like_sent : (c : Config) (p : ℕ) (old core sent : List Saying) → AllByRecursion IsSending sent → Like c p old (sent ++ core) core
 like_sent c p old core [] all = record {
@@ -118,6 +149,7 @@ like_sent c p old core [] all = record {
   names = λ x. refl;
   fits = λ f. f;
   alive = λ a. a;
+  quiet = λ q. q;
 }
 like_sent c p old core (Sent q ∷ sent) all =
     let more : Like c p old (sent ++ core) core = like_sent c p old core sent all.1 in record {
@@ -127,6 +159,7 @@ like_sent c p old core (Sent q ∷ sent) all =
       names = more.names;
       fits = λ f. (tt, more.fits f);
       alive = λ a. (tt, more.alive a);
+      quiet = λ q. (tt, more.quiet q);
     }
 like_sent c p old core (_ ∷ sent) all = absurd all.0
 
@@ -138,6 +171,7 @@ like_acks c p old [] all = record {
   names = λ x. refl;
   fits = λ f. f;
   alive = λ a. a;
+  quiet = λ q. q;
 }
 like_acks c p old (Sent q ∷ ys) all =
     let more : Like c p old ys [] = like_acks c p old ys all.1 in record {
@@ -147,6 +181,7 @@ like_acks c p old (Sent q ∷ ys) all =
       names = more.names;
       fits = λ f. (tt, more.fits f);
       alive = λ a. (tt, more.alive a);
+      quiet = λ q. (tt, more.quiet q);
     }
 like_acks c p old (Acked q z ∷ ys) all =
     let more : Like c p old ys [] = like_acks c p old ys all.1 in record {
@@ -156,6 +191,7 @@ like_acks c p old (Acked q z ∷ ys) all =
       names = more.names;
       fits = λ f. (tt, more.fits f);
       alive = λ a. (tt, more.alive a);
+      quiet = λ q. (tt, more.quiet q);
     }
 like_acks c p old (_ ∷ ys) all = absurd all.0
 
@@ -164,33 +200,20 @@ like_says c p ms m core s = subst (λ ys. Like c p (said ms) ys core) (sym s.is)
 
 -- ---- lives and stages
 
-held_only : (s : Stage) → is_held s ≡ true → s ≡ Held
-held_only Coming e = absurd cc
-held_only Held e = refl
-held_only Gone e = absurd cc
-
--- lives that are the same where it matters
-pub ties_same : (mine : ContextId → Bool) (mk : List Making) (f : Facts) (L M : ContextId → Stage) → ((x a : ContextId) → above_in mk x ≡ Some a → mine x ≡ mine a) → ((x : ContextId) → mine x ≡ true → L x ≡ M x)
-    → LifeTies mine mk f L → LifeTies mine mk f M
-ties_same mine mk f L M upper same t = record {
-  live = λ x m. ap is_held (sym (same x m)) ∙ t.live x m;
-  unknown = λ x m new. carried x m (t.unknown x m new);
-}
-  where
-    carried : (x : ContextId) → mine x ≡ true → (L x ≡ Coming) ⊎ ((a : ContextId) × (above_in mk x ≡ Some a) × (L a ≡ Gone)) → (M x ≡ Coming) ⊎ ((a : ContextId) × (above_in mk x ≡ Some a) × (M a ≡ Gone))
-    carried x m (inl is) = inl (sym (same x m) ∙ is)
-    carried x m (inr (a, up, gone)) = inr (a, up, sym (same a (sym (upper x a up) ∙ m)) ∙ gone)
+-- lives that are the same
+pub ties_same : (mk : List Making) (f : Facts) (L M : ContextId → Stage) → ((x : ContextId) → L x ≡ M x) → LifeTies mk f L → LifeTies mk f M
+ties_same mk f L M same t = subst (LifeTies mk f) (fun_ext same) t
 
 -- ---- an entry in which the parent heard this bundle, and said this
 
 module _ (c : Config) (p : ℕ) (mk : List Making) (l : Lined mk) (old : List Saying) (ft : FactsTies c.tabs mk (asked c.tabs old)) (h : List ProcessEvent) (runs : is_ended h ≡ false)
-    (t : TreeFacts c p mk (asked c.tabs old) h) (ys : List Saying) (s : Saids c p mk l old ft ys) (alive : AllByRecursion (IsNoEndOf p) ys) (b : UpBundle)
+    (t : TreeFacts c p mk (asked c.tabs old) h) (ys : List Saying) (s : Saids c mk l old ft ys) (alive : AllByRecursion (IsNoEndOf p) ys) (quiet : AllByRecursion IsQuiet ys) (b : UpBundle)
   where
     abbrev look : Look ContextId Written DownBundle
     look = tree_look c p mk
 
     abbrev begin : Begin ContextId
-    begin = tree_begin c p
+    begin = tree_begin c p mk
 
     abbrev before : Facts
     before = asked c.tabs old
@@ -198,30 +221,29 @@ module _ (c : Config) (p : ℕ) (mk : List Making) (l : Lined mk) (old : List Sa
     abbrev now : Facts
     now = asked c.tabs (ys ++ old)
 
-    upper_mine : (x a : ContextId) → above_in mk x ≡ Some a → is_of_its_tabs c p mk x ≡ is_of_its_tabs c p mk a
-    upper_mine x a up = mine_above c p mk l old ft x a up
-
-    lives_now : LifeTies (is_of_its_tabs c p mk) mk (asked c.tabs (ys ++ old)) (λ z. moved (says_do z (line z mk) ys) (life (tree_look c p mk) (tree_begin c p) z h))
-    lives_now = lives_behind c p mk l old ft (λ x. life look begin x h) t.lives ys s
+    lives_now : LifeTies mk (asked c.tabs (ys ++ old)) (λ z. moved (says_do z (line z mk) ys) (life (tree_look c p mk) (tree_begin c p mk) z h))
+    lives_now = lives_behind c mk l old ft (λ x. life look begin x h) t.lives ys s
 
     facts_behind_it : FactsTies c.tabs mk (asked c.tabs (ys ++ old))
-    facts_behind_it = facts_behind c p mk l old ft ys s
+    facts_behind_it = facts_behind c mk l old ft ys s
 
-    owned_now : (y : ContextId) → is_of_its_tabs c p mk y ≡ true → (asked c.tabs (ys ++ old)).contexts.live y ≡ true → owned_behind (says_hand p y ys) (owned (tree_look c p mk) (tree_begin c p) y h) ≡ is_owner (asked c.tabs (ys ++ old)) p y
-    owned_now y m live = owner_mine c p old (is_of_its_tabs c p mk) (λ x. owned look begin x h) ys s.fits alive t.owners y m live
+    owned_now : (y : ContextId) → (asked c.tabs (ys ++ old)).contexts.live y ≡ true → owned_behind (says_hand p y ys) (owned (tree_look c p mk) (tree_begin c p mk) y h) ≡ is_owner (asked c.tabs (ys ++ old)) p y
+    owned_now y live = owner_all c p old (λ x. owned look begin x h) ys s.fits alive t.owners y live
 
     -- where the event tells the same of lives, owners and what is known
-    keeps_with : (e : ProcessEvent) → Fit (tree_look c p mk) (tree_begin c p) e h
-        → LifeTies (is_of_its_tabs c p mk) mk (asked c.tabs (ys ++ old)) (λ x. life (tree_look c p mk) (tree_begin c p) x (e ∷ h))
-        → ((x : ContextId) → is_of_its_tabs c p mk x ≡ true → owned (tree_look c p mk) (tree_begin c p) x (e ∷ h) ≡ owned_behind (says_hand p x ys) (owned (tree_look c p mk) (tree_begin c p) x h))
-        → ((x : ContextId) → is_of_its_tabs c p mk x ≡ true → is_known (tree_look c p mk) (tree_begin c p) x (e ∷ h) ≡ (says_name x ys || is_known (tree_look c p mk) (tree_begin c p) x h))
+    keeps_with : (e : ProcessEvent) → Fit (tree_look c p mk) (tree_begin c p mk) e h
+        → ((g : GroupId) → group_told c p g (e ∷ h) ≡ group_told c p g h)
+        → LifeTies mk (asked c.tabs (ys ++ old)) (λ x. life (tree_look c p mk) (tree_begin c p mk) x (e ∷ h))
+        → ((x : ContextId) → owned (tree_look c p mk) (tree_begin c p mk) x (e ∷ h) ≡ owned_behind (says_hand p x ys) (owned (tree_look c p mk) (tree_begin c p mk) x h))
+        → ((x : ContextId) → is_known (tree_look c p mk) (tree_begin c p mk) x (e ∷ h) ≡ (says_name x ys || is_known (tree_look c p mk) (tree_begin c p mk) x h))
         → TreeFacts c p mk (asked c.tabs (ys ++ old)) (e ∷ h)
-    keeps_with e fit lives owning knowing = record {
+    keeps_with e fit telling lives owning knowing = record {
       fits = ((λ r. fit), t.fits);
+      told = λ g. subscribed_still c p old g ys quiet ∙ t.told g ∙ sym (telling g);
       lives = lives;
-      owners = λ x m live. owning x m ∙ owned_now x m live;
-      known = λ x m is. known_is c old ys x ∙ carried (says_name x ys) (is_known look begin x h) (before.contexts.known x) (t.known x m) (sym (knowing x m) ∙ is);
-      own_known = λ x m own is. knowing x m ∙ carried (says_name x ys) (before.contexts.known x) (is_known look begin x h) (t.own_known x m own) (sym (known_is c old ys x) ∙ is);
+      owners = λ x live. owning x ∙ owned_now x live;
+      known = λ x is. known_is c old ys x ∙ carried (says_name x ys) (is_known look begin x h) (before.contexts.known x) (t.known x) (sym (knowing x) ∙ is);
+      own_known = λ x own is. knowing x ∙ carried (says_name x ys) (before.contexts.known x) (is_known look begin x h) (t.own_known x own) (sym (known_is c old ys x) ∙ is);
     }
       where
         carried : (n u v : Bool) → (u ≡ true → v ≡ true) → (n || u) ≡ true → (n || v) ≡ true
@@ -235,199 +257,165 @@ module _ (c : Config) (p : ℕ) (mk : List Making) (l : Lined mk) (old : List Sa
         (by_itself : (x y : ContextId) → says_do x (line x mk) ys ≡ Comes → above_in mk x ≡ Some y → (asked c.tabs (ys ++ old)).contexts.live y ≡ true → ((x.creator == p + 1) ≡ true) × (is_owner (asked c.tabs (ys ++ old)) p y ≡ true))
         (k : ℕ)
       where
-        does_mine : (x : ContextId) → is_of_its_tabs c p mk x ≡ true → (tree_look c p mk).does x (Own b) ≡ says_do x (line x mk) ys
-        does_mine x m = ap (λ (v : Bool). if v then parts_do x (line x mk) b.parts else Stays) m ∙ does_same x
+        lives_accepted : LifeTies mk (asked c.tabs (ys ++ old)) (λ x. life (tree_look c p mk) (tree_begin c p mk) x (Accepts k (Own b) ∷ h))
+        lives_accepted = ties_same mk now (λ z. moved (says_do z (line z mk) ys) (life look begin z h)) (λ x. life look begin x (Accepts k (Own b) ∷ h))
+            (λ x. ap (λ d. moved d (life look begin x h)) (sym (does_same x))) lives_now
 
-        hands_mine : (x : ContextId) → is_of_its_tabs c p mk x ≡ true → (tree_look c p mk).hands x (Own b) ≡ says_hand p x ys
-        hands_mine x m = ap (λ (v : Bool). if v then parts_hand x b.parts else Same) m ∙ hand_same x
-
-        mine_moved : (x : ContextId) → ((tree_look c p mk).does x (Own b) ≡ Stays → ⊥) → is_of_its_tabs c p mk x ≡ true
-        mine_moved x moves = by_mine (is_of_its_tabs c p mk x) refl
-          where
-            by_mine : (v : Bool) → is_of_its_tabs c p mk x ≡ v → is_of_its_tabs c p mk x ≡ true
-            by_mine true is = is
-            by_mine false isnt = absurd (moves (ap (λ (v : Bool). if v then parts_do x (line x mk) b.parts else Stays) isnt))
-
-        mine_of : (x : ContextId) → (tree_look c p mk).does x (Own b) ≡ Comes → is_of_its_tabs c p mk x ≡ true
-        mine_of x e = mine_moved x (λ stays. let two : Stays ≡ Comes = sym stays ∙ e in absurd cc)
-
-        mine_gone : (x : ContextId) → (tree_look c p mk).does x (Own b) ≡ Goes → is_of_its_tabs c p mk x ≡ true
-        mine_gone x e = mine_moved x (λ stays. let two : Stays ≡ Goes = sym stays ∙ e in absurd cc)
-
-        lives_accepted : LifeTies (is_of_its_tabs c p mk) mk (asked c.tabs (ys ++ old)) (λ x. life (tree_look c p mk) (tree_begin c p) x (Accepts k (Own b) ∷ h))
-        lives_accepted = ties_same (is_of_its_tabs c p mk) mk now (λ z. moved (says_do z (line z mk) ys) (life look begin z h)) (λ x. life look begin x (Accepts k (Own b) ∷ h)) upper_mine
-            (λ x m. ap (λ d. moved d (life look begin x h)) (sym (does_mine x m))) lives_now
-
-        new_of : (x : ContextId) → (tree_look c p mk).does x (Own b) ≡ Comes → life (tree_look c p mk) (tree_begin c p) x h ≡ Coming
-        new_of x e = comes_new c p mk l old ft (λ x. life look begin x h) t.lives x ys s (mine_of x e) (sym (does_mine x (mine_of x e)) ∙ e)
+        new_of : (x : ContextId) → (tree_look c p mk).does x (Own b) ≡ Comes → life (tree_look c p mk) (tree_begin c p mk) x h ≡ Coming
+        new_of x e = comes_new c mk l old ft (λ x. life look begin x h) t.lives x ys s (sym (does_same x) ∙ e)
 
         -- what comes is live then
         live_of : (x : ContextId) → (tree_look c p mk).does x (Own b) ≡ Comes → (asked c.tabs (ys ++ old)).contexts.live x ≡ true
-        live_of x e = sym (lives_accepted.live x (mine_of x e)) ∙ ap is_held (ap₂ moved e (new_of x e))
+        live_of x e = sym (lives_accepted.live x) ∙ ap is_held (ap₂ moved e (new_of x e))
 
-        owned_accepted : (x : ContextId) → is_of_its_tabs c p mk x ≡ true → owned (tree_look c p mk) (tree_begin c p) x (Accepts k (Own b) ∷ h) ≡ owned_behind (says_hand p x ys) (owned (tree_look c p mk) (tree_begin c p) x h)
-        owned_accepted x m = ap (λ d. owned_behind d (owned look begin x h)) (hands_mine x m)
+        owned_accepted : (x : ContextId) → owned (tree_look c p mk) (tree_begin c p mk) x (Accepts k (Own b) ∷ h) ≡ owned_behind (says_hand p x ys) (owned (tree_look c p mk) (tree_begin c p mk) x h)
+        owned_accepted x = ap (λ d. owned_behind d (owned look begin x h)) (hand_same x)
 
-        known_accepted : (x : ContextId) → is_of_its_tabs c p mk x ≡ true → is_known (tree_look c p mk) (tree_begin c p) x (Accepts k (Own b) ∷ h) ≡ (says_name x ys || is_known (tree_look c p mk) (tree_begin c p) x h)
-        known_accepted x m = ap (λ v. v || is_known look begin x h) (ap (λ u. u && parts_create x b.parts) m ∙ name_same x)
+        known_accepted : (x : ContextId) → is_known (tree_look c p mk) (tree_begin c p mk) x (Accepts k (Own b) ∷ h) ≡ (says_name x ys || is_known (tree_look c p mk) (tree_begin c p mk) x h)
+        known_accepted x = ap (λ v. v || is_known look begin x h) (name_same x)
 
-        accepted_done : (x : ContextId) → Done (tree_look c p mk) (tree_begin c p) (Accepts k (Own b)) (Own b) x h
+        accepted_done : (x : ContextId) → Done (tree_look c p mk) (tree_begin c p mk) (Accepts k (Own b)) (Own b) x h
         accepted_done x = record {
           new = new_of x;
           with_above = λ goes own new. along goes new;
-          below_live = λ comes y up. held_only (life look begin y (Accepts k (Own b) ∷ h)) (lives_accepted.live y (mine_up y up comes) ∙ facts_behind_it.above_live x y (live_of x comes) up);
+          below_live = λ comes y up. held_only (life look begin y (Accepts k (Own b) ∷ h)) (lives_accepted.live y ∙ facts_behind_it.above_live x y (live_of x comes) up);
           by_owner = λ comes y up.
-              let own : ((x.creator == p + 1) ≡ true) × (is_owner now p y ≡ true) = by_itself x y (sym (does_mine x (mine_of x comes)) ∙ comes) up (facts_behind_it.above_live x y (live_of x comes) up) in
-              own.0 ∙ sym (owned_accepted y (mine_up y up comes) ∙ owned_now y (mine_up y up comes) (facts_behind_it.above_live x y (live_of x comes) up) ∙ own.1);
+              let own : ((x.creator == p + 1) ≡ true) × (is_owner now p y ≡ true) = by_itself x y (sym (does_same x) ∙ comes) up (facts_behind_it.above_live x y (live_of x comes) up) in
+              own.0 ∙ sym (owned_accepted y ∙ owned_now y (facts_behind_it.above_live x y (live_of x comes) up) ∙ own.1);
           cleared = λ y up. cleared_of y up (handed_created p y ys);
         }
           where
-            mine_up : (y : ContextId) → above_in mk x ≡ Some y → (tree_look c p mk).does x (Own b) ≡ Comes → is_of_its_tabs c p mk y ≡ true
-            mine_up y up comes = sym (upper_mine x y up) ∙ mine_of x comes
-
-            along : (tree_look c p mk).does x (Own b) ≡ Goes → life (tree_look c p mk) (tree_begin c p) x h ≡ Coming → Above (tree_look c p mk) x (λ y. (tree_look c p mk).does y (Own b) ≡ Goes)
-            along goes new = further (goes_along c p mk l old ft (λ x. life look begin x h) t.lives x ys s (mine_gone x goes) (unmade x (sym (does_mine x (mine_gone x goes)) ∙ goes)) (sym (does_mine x (mine_gone x goes)) ∙ goes) new)
+            along : (tree_look c p mk).does x (Own b) ≡ Goes → life (tree_look c p mk) (tree_begin c p mk) x h ≡ Coming → Above (tree_look c p mk) x (λ y. (tree_look c p mk).does y (Own b) ≡ Goes)
+            along goes new = further (goes_along c mk l old ft (λ x. life look begin x h) t.lives x ys s (unmade x (sym (does_same x) ∙ goes)) (sym (does_same x) ∙ goes) new)
               where
                 further : (a : ContextId) × (above_in mk x ≡ Some a) × (says_do a (line a mk) ys ≡ Goes) → Above (tree_look c p mk) x (λ y. (tree_look c p mk).does y (Own b) ≡ Goes)
-                further (a, up, gone) = (a, up, does_mine a (sym (upper_mine x a up) ∙ mine_gone x goes) ∙ gone)
+                further (a, up, gone) = (a, up, does_same a ∙ gone)
 
             -- what is made has nothing below it yet
             cleared_of : (y : ContextId) → above_in mk x ≡ Some y → (says_hand p y ys ≡ Same) ⊎ (says_create y ys ≡ true)
-                → ((tree_look c p mk).hands y (Own b) ≡ Same) ⊎ (life (tree_look c p mk) (tree_begin c p) x h ≡ Held → life (tree_look c p mk) (tree_begin c p) x (Accepts k (Own b) ∷ h) ≡ Held → ⊥)
-            cleared_of y up (inl same) = inl (by_if (λ d. d ≡ Same) (is_of_its_tabs c p mk y) (parts_hand y b.parts) Same (λ is. hand_same y ∙ same) (λ isnt. refl))
-            cleared_of y up (inr made) = by_mine (is_of_its_tabs c p mk y) refl
-              where
-                by_mine : (v : Bool) → is_of_its_tabs c p mk y ≡ v → ((tree_look c p mk).hands y (Own b) ≡ Same) ⊎ (life (tree_look c p mk) (tree_begin c p) x h ≡ Held → life (tree_look c p mk) (tree_begin c p) x (Accepts k (Own b) ∷ h) ≡ Held → ⊥)
-                by_mine false isnt = inl (ap (λ (v : Bool). if v then parts_hand y b.parts else Same) isnt)
-                by_mine true is = inr (λ was still.
-                    let x_live : before.contexts.live x ≡ true = sym (t.lives.live x (upper_mine x y up ∙ is)) ∙ ap is_held was in
-                    created_new c old ys y s.fits made (ft.live_known y (ft.above_live x y x_live up)))
+                → ((tree_look c p mk).hands y (Own b) ≡ Same) ⊎ (life (tree_look c p mk) (tree_begin c p mk) x h ≡ Held → life (tree_look c p mk) (tree_begin c p mk) x (Accepts k (Own b) ∷ h) ≡ Held → ⊥)
+            cleared_of y up (inl same) = inl (hand_same y ∙ same)
+            cleared_of y up (inr made) = inr (λ was still.
+                let x_live : before.contexts.live x ≡ true = sym (t.lives.live x) ∙ ap is_held was in
+                created_new c old ys y ft.tabs_low s.fits made (ft.live_known y (ft.above_live x y x_live up)))
 
         pub accepted : TreeFacts c p mk (asked c.tabs (ys ++ old)) (Accepts k (Own b) ∷ h)
-        accepted = keeps_with (Accepts k (Own b)) accepted_done lives_accepted owned_accepted known_accepted
+        accepted = keeps_with (Accepts k (Own b)) accepted_done (λ g. refl) lives_accepted owned_accepted known_accepted
 
     -- ---- nothing of a tree is said, and nobody is told as an owner
 
     module _ (stays : (x : ContextId) → says_do x (line x mk) ys ≡ Stays) (same_hand : (x : ContextId) → says_hand p x ys ≡ Same) (name_same : (x : ContextId) → parts_create x b.parts ≡ says_name x ys) (k : ℕ) where
-      lives_still : LifeTies (is_of_its_tabs c p mk) mk (asked c.tabs (ys ++ old)) (λ x. life (tree_look c p mk) (tree_begin c p) x h)
-      lives_still = ties_same (is_of_its_tabs c p mk) mk now (λ z. moved (says_do z (line z mk) ys) (life look begin z h)) (λ x. life look begin x h) upper_mine
-          (λ x m. ap (λ d. moved d (life look begin x h)) (stays x)) lives_now
+      lives_still : LifeTies mk (asked c.tabs (ys ++ old)) (λ x. life (tree_look c p mk) (tree_begin c p mk) x h)
+      lives_still = ties_same mk now (λ z. moved (says_do z (line z mk) ys) (life look begin z h)) (λ x. life look begin x h)
+          (λ x. ap (λ d. moved d (life look begin x h)) (stays x)) lives_now
 
-      owned_still : (x : ContextId) → is_of_its_tabs c p mk x ≡ true → owned (tree_look c p mk) (tree_begin c p) x h ≡ owned_behind (says_hand p x ys) (owned (tree_look c p mk) (tree_begin c p) x h)
-      owned_still x m = sym (ap (λ d. owned_behind d (owned look begin x h)) (same_hand x))
+      owned_still : (x : ContextId) → owned (tree_look c p mk) (tree_begin c p mk) x h ≡ owned_behind (says_hand p x ys) (owned (tree_look c p mk) (tree_begin c p mk) x h)
+      owned_still x = sym (ap (λ d. owned_behind d (owned look begin x h)) (same_hand x))
 
-      known_still : (x : ContextId) → is_of_its_tabs c p mk x ≡ true → ((is_of_its_tabs c p mk x && parts_create x b.parts) || is_known (tree_look c p mk) (tree_begin c p) x h) ≡ (says_name x ys || is_known (tree_look c p mk) (tree_begin c p) x h)
-      known_still x m = ap (λ v. v || is_known look begin x h) (ap (λ u. u && parts_create x b.parts) m ∙ name_same x)
+      known_still : (x : ContextId) → (parts_create x b.parts || is_known (tree_look c p mk) (tree_begin c p mk) x h) ≡ (says_name x ys || is_known (tree_look c p mk) (tree_begin c p mk) x h)
+      known_still x = ap (λ v. v || is_known look begin x h) (name_same x)
 
       -- it ignores it
-      pub ignored : ((x : ContextId) → Ignored ((tree_look c p mk).does x (Own b)) (life (tree_look c p mk) (tree_begin c p) x h)) → TreeFacts c p mk (asked c.tabs (ys ++ old)) (Ignores k (Own b) ∷ h)
-      ignored fit = keeps_with (Ignores k (Own b)) fit lives_still owned_still known_still
+      pub ignored : ((x : ContextId) → Ignored ((tree_look c p mk).does x (Own b)) (life (tree_look c p mk) (tree_begin c p mk) x h)) → TreeFacts c p mk (asked c.tabs (ys ++ old)) (Ignores k (Own b) ∷ h)
+      ignored fit = keeps_with (Ignores k (Own b)) fit (λ g. refl) lives_still owned_still known_still
 
       -- it sends back what is nothing of a tree
-      module _ (d : DownBundle) (does_stays : (x : ContextId) → parts_do x (line x mk) b.parts ≡ Stays) (tells_stays : (x : ContextId) → parts_tell x (line x mk) d.parts ≡ Stays)
-          (brings_none : (x : ContextId) → parts_bring x d.parts ≡ []) (hands_none : (x : ContextId) → parts_handed x d.parts ≡ Same)
+      module _ (d : DownBundle) (does_stays : (x : ContextId) → parts_do x (line x mk) b.parts ≡ Stays) (tells_stays : (x : ContextId) → parts_tell x (line x mk) (singles d.parts) ≡ Stays)
+          (brings_none : (x : ContextId) → parts_bring x (singles d.parts) ≡ []) (hands_none : (x : ContextId) → parts_handed x (singles d.parts) ≡ Same)
         where
-          tells_nothing : (x : ContextId) → (tree_look c p mk).tells x d ≡ Stays
-          tells_nothing x = by_if (λ a. a ≡ Stays) (is_of_its_tabs c p mk x) (parts_tell x (line x mk) d.parts) Stays (λ is. tells_stays x) (λ isnt. refl)
+          handed_nothing : (x : ContextId) (a : Effect) → handed_unless a (parts_handed x (singles d.parts)) ≡ Same
+          handed_nothing x Stays = hands_none x
+          handed_nothing x Comes = hands_none x
+          handed_nothing x Goes = refl
 
-          does_nothing : (x : ContextId) → (tree_look c p mk).does x (Own b) ≡ Stays
-          does_nothing x = by_if (λ a. a ≡ Stays) (is_of_its_tabs c p mk x) (parts_do x (line x mk) b.parts) Stays (λ is. does_stays x) (λ isnt. refl)
-
-          handed_nothing : (x : ContextId) (a : Effect) → parts_tell x (line x mk) d.parts ≡ a → handed_unless a (parts_handed x d.parts) ≡ Same
-          handed_nothing x Stays e = hands_none x
-          handed_nothing x Comes e = hands_none x
-          handed_nothing x Goes e = refl
-
-          reverted_fit : (x : ContextId) → GivesBack (tree_look c p mk) (tree_begin c p) (Own b) d x h
+          reverted_fit : (x : ContextId) → GivesBack (tree_look c p mk) (tree_begin c p mk) (Own b) d x h
           reverted_fit x = record {
-            returned = subst (λ a. Returned a (look.tells x d)) (sym (does_nothing x)) (λ comes. let two : Stays ≡ Comes = sym (tells_nothing x) ∙ comes in absurd cc);
-            with_above = λ goes own new. let two : Stays ≡ Goes = sym (tells_nothing x) ∙ goes in absurd cc;
-            untold = λ e. tells_nothing x;
-            brings_none = by_if (λ xs. xs ≡ []) (is_of_its_tabs c p mk x) (parts_bring x d.parts) [] (λ is. brings_none x) (λ isnt. refl);
-            hands_none = by_if (λ a. a ≡ Same) (is_of_its_tabs c p mk x) (handed_unless (parts_tell x (line x mk) d.parts) (parts_handed x d.parts)) Same (λ is. handed_nothing x (parts_tell x (line x mk) d.parts) refl) (λ isnt. refl);
+            returned = subst (λ a. Returned a (look.tells x d)) (sym (does_stays x)) (λ comes. let two : Stays ≡ Comes = sym (tells_stays x) ∙ comes in absurd cc);
+            with_above = λ goes own new. let two : Stays ≡ Goes = sym (tells_stays x) ∙ goes in absurd cc;
+            untold = λ e. tells_stays x;
+            brings_none = brings_none x;
+            hands_none = handed_nothing x (parts_tell x (line x mk) (singles d.parts));
           }
 
           pub reverted : TreeFacts c p mk (asked c.tabs (ys ++ old)) (Reverts k (Own b) d ∷ h)
-          reverted = keeps_with (Reverts k (Own b) d) reverted_fit
-              (ties_same (is_of_its_tabs c p mk) mk now (λ x. life look begin x h) (λ x. life look begin x (Reverts k (Own b) d ∷ h)) upper_mine (λ x m. ap (λ a. moved a (life look begin x h)) (sym (tells_nothing x))) lives_still)
+          reverted = keeps_with (Reverts k (Own b) d) reverted_fit (λ g. refl)
+              (ties_same mk now (λ x. life look begin x h) (λ x. life look begin x (Reverts k (Own b) d ∷ h)) (λ x. ap (λ a. moved a (life look begin x h)) (sym (tells_stays x))) lives_still)
               owned_still known_still
 
       -- it sends back the removal of what was made too late
-      module _ (d : DownBundle) (x a : ContextId) (up : above_in mk x ≡ Some a) (new : (asked c.tabs old).contexts.known x ≡ false) (made : b.parts ≡ ups.Create x a ∷ []) (back : d.parts ≡ downs.Discard x ∷ []) where
-        tells_mine : (z : ContextId) → is_of_its_tabs c p mk z ≡ true → (tree_look c p mk).tells z d ≡ goes_if (is_among x (line z mk))
-        tells_mine z m = ap (λ (v : Bool). if v then parts_tell z (line z mk) d.parts else Stays) m ∙ ap (parts_tell z (line z mk)) back ∙ both_stays (goes_if (is_among x (line z mk)))
+      module _ (d : DownBundle) (x a : ContextId) (up : above_in mk x ≡ Some a) (new : (asked c.tabs old).contexts.known x ≡ false) (made : b.parts ≡ ups.Create x a ∷ []) (back : d.parts ≡ downs.Discard x ∷ []) (flows : Flows h) (first : IsFirst (Own b) (writes_waiting h)) where
+        tells_late : (z : ContextId) → (tree_look c p mk).tells z d ≡ goes_if (is_among x (line z mk))
+        tells_late z = ap (λ ps. parts_tell z (line z mk) (singles ps)) back ∙ both_stays (goes_if (is_among x (line z mk)))
 
-        tells_other : (z : ContextId) → is_of_its_tabs c p mk z ≡ false → (tree_look c p mk).tells z d ≡ Stays
-        tells_other z m = ap (λ (v : Bool). if v then parts_tell z (line z mk) d.parts else Stays) m
+        does_late : (z : ContextId) → (tree_look c p mk).does z (Own b) ≡ comes_if (same_context z x)
+        does_late z = ap (parts_do z (line z mk)) made ∙ both_stays (comes_if (same_context z x))
 
-        does_late : (z : ContextId) → is_of_its_tabs c p mk z ≡ true → (tree_look c p mk).does z (Own b) ≡ comes_if (same_context z x)
-        does_late z m = ap (λ (v : Bool). if v then parts_do z (line z mk) b.parts else Stays) m ∙ ap (parts_do z (line z mk)) made ∙ both_stays (comes_if (same_context z x))
-
-        does_other : (z : ContextId) → is_of_its_tabs c p mk z ≡ false → (tree_look c p mk).does z (Own b) ≡ Stays
-        does_other z m = ap (λ (v : Bool). if v then parts_do z (line z mk) b.parts else Stays) m
-
-        mine_late : (z : ContextId) → (tree_look c p mk).tells z d ≡ Goes → is_of_its_tabs c p mk z ≡ true
-        mine_late z e = by_mine (is_of_its_tabs c p mk z) refl
-          where
-            by_mine : (v : Bool) → is_of_its_tabs c p mk z ≡ v → is_of_its_tabs c p mk z ≡ true
-            by_mine true is = is
-            by_mine false isnt = let two : Stays ≡ Goes = sym (tells_other z isnt) ∙ e in absurd cc
+        -- who made it is told of it, and of all below it
+        told_late : (z : ContextId) → is_among x (line z mk) ≡ true → is_told (tree_look c p mk) (tree_begin c p mk) z h ≡ true
+        told_late z on =
+            let told_x : is_told look begin x h ≡ true = wrote_told look begin (lawful c p mk l) x (Own b) h flows t.fits runs first
+            (λ stays. let two : Stays ≡ Comes = sym stays ∙ does_late x ∙ ap comes_if (same_itself x) in absurd cc) in
+            let same : is_told look begin x h ≡ is_told look begin z h =
+            up_the_line mk (λ w. is_told look begin w h ≡ is_told look begin z h) l (λ w u so upper. sym (told_above look begin (lawful c p mk l) w u upper h) ∙ so) (length (line z mk)) x z (omega arith) refl on in
+            sym same ∙ told_x
 
         dead : (asked c.tabs old).contexts.live x ≡ true → ⊥
         dead e = true_false (before.contexts.known x) (ft.live_known x e) new
 
         -- what is below it isn't live
-        dead_below : (z : ContextId) → is_of_its_tabs c p mk z ≡ true → is_among x (line z mk) ≡ true → (asked c.tabs (ys ++ old)).contexts.live z ≡ true → ⊥
-        dead_below z m on live =
-            let mine_x : is_of_its_tabs c p mk x ≡ true = ap (is_held_at_start c.tabs p) (root_of mk l x z on) ∙ m in
+        dead_below : (z : ContextId) → is_among x (line z mk) ≡ true → (asked c.tabs (ys ++ old)).contexts.live z ≡ true → ⊥
+        dead_below z on live =
             let live_x : now.contexts.live x ≡ true = up_the_line mk (λ w. now.contexts.live w ≡ true) l (λ w e is upper. facts_behind_it.above_live w e is upper) (length (line z mk)) x z (omega arith) live on in
-            dead (sym (t.lives.live x mine_x) ∙ lives_still.live x mine_x ∙ live_x)
+            dead (sym (t.lives.live x) ∙ lives_still.live x ∙ live_x)
 
-        lives_late : LifeTies (is_of_its_tabs c p mk) mk (asked c.tabs (ys ++ old)) (λ z. life (tree_look c p mk) (tree_begin c p) z (Reverts k (Own b) d ∷ h))
+        lives_late : LifeTies mk (asked c.tabs (ys ++ old)) (λ z. life (tree_look c p mk) (tree_begin c p mk) z (Reverts k (Own b) d ∷ h))
         lives_late = record { live = live_late; unknown = unknown_late }
           where
-            live_late : (z : ContextId) → is_of_its_tabs c p mk z ≡ true → is_held (moved ((tree_look c p mk).tells z d) (life (tree_look c p mk) (tree_begin c p) z h)) ≡ (asked c.tabs (ys ++ old)).contexts.live z
-            live_late z m = ap (λ e. is_held (moved e (life look begin z h))) (tells_mine z m) ∙ by_line (is_among x (line z mk)) refl
+            live_late : (z : ContextId) → is_held (moved ((tree_look c p mk).tells z d) (life (tree_look c p mk) (tree_begin c p mk) z h)) ≡ (asked c.tabs (ys ++ old)).contexts.live z
+            live_late z = ap (λ e. is_held (moved e (life look begin z h))) (tells_late z) ∙ by_line (is_among x (line z mk)) refl
               where
                 by_live : (v : Bool) → (asked c.tabs (ys ++ old)).contexts.live z ≡ v → is_among x (line z mk) ≡ true → false ≡ (asked c.tabs (ys ++ old)).contexts.live z
                 by_live false isnt on = sym isnt
-                by_live true is on = absurd (dead_below z m on is)
+                by_live true is on = absurd (dead_below z on is)
 
-                by_line : (v : Bool) → is_among x (line z mk) ≡ v → is_held (moved (goes_if v) (life (tree_look c p mk) (tree_begin c p) z h)) ≡ (asked c.tabs (ys ++ old)).contexts.live z
-                by_line false isnt = lives_still.live z m
+                by_line : (v : Bool) → is_among x (line z mk) ≡ v → is_held (moved (goes_if v) (life (tree_look c p mk) (tree_begin c p mk) z h)) ≡ (asked c.tabs (ys ++ old)).contexts.live z
+                by_line false isnt = lives_still.live z
                 by_line true on = by_live (now.contexts.live z) refl on
 
-            unknown_late : (z : ContextId) → is_of_its_tabs c p mk z ≡ true → (asked c.tabs (ys ++ old)).contexts.known z ≡ false
-                → (moved ((tree_look c p mk).tells z d) (life (tree_look c p mk) (tree_begin c p) z h) ≡ Coming) ⊎ ((u : ContextId) × (above_in mk z ≡ Some u) × (moved ((tree_look c p mk).tells u d) (life (tree_look c p mk) (tree_begin c p) u h) ≡ Gone))
-            unknown_late z m unknown = by_line (is_among x (line z mk)) refl
+            unknown_late : (z : ContextId) → (asked c.tabs (ys ++ old)).contexts.known z ≡ false
+                → (moved ((tree_look c p mk).tells z d) (life (tree_look c p mk) (tree_begin c p mk) z h) ≡ Coming) ⊎ ((u : ContextId) × (above_in mk z ≡ Some u) × (moved ((tree_look c p mk).tells u d) (life (tree_look c p mk) (tree_begin c p mk) u h) ≡ Gone))
+            unknown_late z unknown = by_line (is_among x (line z mk)) refl
               where
-                kept : is_among x (line z mk) ≡ false → (life (tree_look c p mk) (tree_begin c p) z h ≡ Coming) ⊎ ((u : ContextId) × (above_in mk z ≡ Some u) × (life (tree_look c p mk) (tree_begin c p) u h ≡ Gone))
-                    → (moved ((tree_look c p mk).tells z d) (life (tree_look c p mk) (tree_begin c p) z h) ≡ Coming) ⊎ ((u : ContextId) × (above_in mk z ≡ Some u) × (moved ((tree_look c p mk).tells u d) (life (tree_look c p mk) (tree_begin c p) u h) ≡ Gone))
-                kept isnt (inl coming) = inl (ap (λ e. moved e (life look begin z h)) (tells_mine z m ∙ ap goes_if isnt) ∙ coming)
+                kept : is_among x (line z mk) ≡ false → (life (tree_look c p mk) (tree_begin c p mk) z h ≡ Coming) ⊎ ((u : ContextId) × (above_in mk z ≡ Some u) × (life (tree_look c p mk) (tree_begin c p mk) u h ≡ Gone))
+                    → (moved ((tree_look c p mk).tells z d) (life (tree_look c p mk) (tree_begin c p mk) z h) ≡ Coming) ⊎ ((u : ContextId) × (above_in mk z ≡ Some u) × (moved ((tree_look c p mk).tells u d) (life (tree_look c p mk) (tree_begin c p mk) u h) ≡ Gone))
+                kept isnt (inl coming) = inl (ap (λ e. moved e (life look begin z h)) (tells_late z ∙ ap goes_if isnt) ∙ coming)
                 kept isnt (inr (u, upper, gone)) = inr (u, upper, gone_behind (look.tells u d) (life look begin u h) gone)
 
                 known_x : (asked c.tabs (ys ++ old)).contexts.known x ≡ true
                 known_x = known_is c old ys x ∙ ap (λ v. v || before.contexts.known x) (sym (name_same x) ∙ ap (parts_create x) made ∙ ap (λ v. v || false) (same_itself x))
 
-                taken : (x ≡ z) ⊎ ((u : ContextId) × (above_in mk z ≡ Some u) × (is_among x (line u mk) ≡ true)) → (u : ContextId) × (above_in mk z ≡ Some u) × (moved ((tree_look c p mk).tells u d) (life (tree_look c p mk) (tree_begin c p) u h) ≡ Gone)
+                taken : (x ≡ z) ⊎ ((u : ContextId) × (above_in mk z ≡ Some u) × (is_among x (line u mk) ≡ true)) → (u : ContextId) × (above_in mk z ≡ Some u) × (moved ((tree_look c p mk).tells u d) (life (tree_look c p mk) (tree_begin c p mk) u h) ≡ Gone)
                 taken (inl is) = true_false (now.contexts.known x) known_x (ap now.contexts.known is ∙ unknown)
-                taken (inr (u, upper, more)) = (u, upper, ap (λ e. moved e (life look begin u h)) (tells_mine u (sym (upper_mine z u upper) ∙ m) ∙ ap goes_if more))
+                taken (inr (u, upper, more)) = (u, upper, ap (λ e. moved e (life look begin u h)) (tells_late u ∙ ap goes_if more))
 
                 by_line : (v : Bool) → is_among x (line z mk) ≡ v
-                    → (moved ((tree_look c p mk).tells z d) (life (tree_look c p mk) (tree_begin c p) z h) ≡ Coming) ⊎ ((u : ContextId) × (above_in mk z ≡ Some u) × (moved ((tree_look c p mk).tells u d) (life (tree_look c p mk) (tree_begin c p) u h) ≡ Gone))
-                by_line false isnt = kept isnt (lives_still.unknown z m unknown)
+                    → (moved ((tree_look c p mk).tells z d) (life (tree_look c p mk) (tree_begin c p mk) z h) ≡ Coming) ⊎ ((u : ContextId) × (above_in mk z ≡ Some u) × (moved ((tree_look c p mk).tells u d) (life (tree_look c p mk) (tree_begin c p mk) u h) ≡ Gone))
+                by_line false isnt = kept isnt (lives_still.unknown z unknown)
                 by_line true on = inr (taken (in_line mk l x z on))
 
-        late_fit : (z : ContextId) → GivesBack (tree_look c p mk) (tree_begin c p) (Own b) d z h
+        late_fit : (z : ContextId) → GivesBack (tree_look c p mk) (tree_begin c p mk) (Own b) d z h
         late_fit z = record {
-          returned = returned_mine (is_of_its_tabs c p mk z) refl;
-          with_above = λ goes own coming. by_place (mine_late z goes) (in_line mk l x z (goes_when (is_among x (line z mk)) (sym (tells_mine z (mine_late z goes)) ∙ goes)));
-          untold = λ e. true_false (is_told look begin h) (told_alive c p mk h runs) e;
-          brings_none = by_if (λ xs. xs ≡ []) (is_of_its_tabs c p mk z) (parts_bring z d.parts) [] (λ is. ap (parts_bring z) back) (λ isnt. refl);
-          hands_none = by_if (λ e. e ≡ Same) (is_of_its_tabs c p mk z) (handed_unless (parts_tell z (line z mk) d.parts) (parts_handed z d.parts)) Same
-              (λ is. ap (handed_unless (parts_tell z (line z mk) d.parts)) (ap (parts_handed z) back) ∙ handed_none (parts_tell z (line z mk) d.parts)) (λ isnt. refl);
+          returned = subst (λ e. Returned e (look.tells z d)) (sym (does_late z)) (by_same (same_context z x) refl);
+          with_above = λ goes own coming. by_place (in_line mk l x z (goes_when (is_among x (line z mk)) (sym (tells_late z) ∙ goes)));
+          untold = λ e. by_line (is_among x (line z mk)) refl e;
+          brings_none = ap (λ ps. parts_bring z (singles ps)) back;
+          hands_none = ap (handed_unless (parts_tell z (line z mk) (singles d.parts))) (ap (λ ps. parts_handed z (singles ps)) back) ∙ handed_none (parts_tell z (line z mk) (singles d.parts));
         }
           where
+            by_line : (v : Bool) → is_among x (line z mk) ≡ v → is_told (tree_look c p mk) (tree_begin c p mk) z h ≡ false → (tree_look c p mk).tells z d ≡ Stays
+            by_line true on untold = true_false (is_told look begin z h) (told_late z on) untold
+            by_line false isnt untold = tells_late z ∙ ap goes_if isnt
+
             handed_none : (e : Effect) → handed_unless e Same ≡ Same
             handed_none Stays = refl
             handed_none Comes = refl
@@ -437,55 +425,47 @@ module _ (c : Config) (p : ℕ) (mk : List Making) (l : Lined mk) (old : List Sa
             never_comes true e = absurd cc
             never_comes false e = absurd cc
 
-            by_same : is_of_its_tabs c p mk z ≡ true → (v : Bool) → same_context z x ≡ v → Returned (comes_if v) ((tree_look c p mk).tells z d)
-            by_same m false isnt = λ comes. never_comes (is_among x (line z mk)) (sym (tells_mine z m) ∙ comes)
-            by_same m true is =
-                tells_mine z m ∙ ap goes_if (ap (λ w. is_among x (line w mk)) (same_context_is z x is) ∙ ap (is_among x) (l.line_step x a up) ∙ among_itself x (line a mk))
+            by_same : (v : Bool) → same_context z x ≡ v → Returned (comes_if v) ((tree_look c p mk).tells z d)
+            by_same false isnt = λ comes. never_comes (is_among x (line z mk)) (sym (tells_late z) ∙ comes)
+            by_same true is =
+                tells_late z ∙ ap goes_if (ap (λ w. is_among x (line w mk)) (same_context_is z x is) ∙ ap (is_among x) (l.line_step x a up) ∙ among_itself x (line a mk))
 
-            returned_mine : (v : Bool) → is_of_its_tabs c p mk z ≡ v → Returned ((tree_look c p mk).does z (Own b)) ((tree_look c p mk).tells z d)
-            returned_mine true m = subst (λ e. Returned e (look.tells z d)) (sym (does_late z m)) (by_same m (same_context z x) refl)
-            returned_mine false m = subst (λ e. Returned e (look.tells z d)) (sym (does_other z m)) (λ comes. let two : Stays ≡ Comes = sym (tells_other z m) ∙ comes in absurd cc)
-
-            by_place : is_of_its_tabs c p mk z ≡ true → (x ≡ z) ⊎ ((u : ContextId) × (above_in mk z ≡ Some u) × (is_among x (line u mk) ≡ true)) → ((tree_look c p mk).does z (Own b) ≡ Comes) ⊎ Above (tree_look c p mk) z (λ y. (tree_look c p mk).tells y d ≡ Goes)
-            by_place m (inl is) = inl (does_late z m ∙ ap comes_if (ap (λ w. same_context w x) (sym is) ∙ same_itself x))
-            by_place m (inr (u, upper, more)) = inr (u, upper, tells_mine u (sym (upper_mine z u upper) ∙ m) ∙ ap goes_if more)
+            by_place : (x ≡ z) ⊎ ((u : ContextId) × (above_in mk z ≡ Some u) × (is_among x (line u mk) ≡ true)) → ((tree_look c p mk).does z (Own b) ≡ Comes) ⊎ Above (tree_look c p mk) z (λ y. (tree_look c p mk).tells y d ≡ Goes)
+            by_place (inl is) = inl (does_late z ∙ ap comes_if (ap (λ w. same_context w x) (sym is) ∙ same_itself x))
+            by_place (inr (u, upper, more)) = inr (u, upper, tells_late u ∙ ap goes_if more)
 
         pub late : TreeFacts c p mk (asked c.tabs (ys ++ old)) (Reverts k (Own b) d ∷ h)
-        late = keeps_with (Reverts k (Own b) d) late_fit lives_late owned_still known_still
+        late = keeps_with (Reverts k (Own b) d) late_fit (λ g. refl) lives_late owned_still known_still
 
       -- it ignores a drop of what was discarded
-      module _ (x : ContextId) (known : (asked c.tabs old).contexts.known x ≡ true) (off : (asked c.tabs old).contexts.live x ≡ false) (dropped : b.parts ≡ ups.Drop x ∷ []) (flows : Flows h) (first : IsFirst (Own b) (writes_waiting h)) where
-        keeps : Keeps (tree_look c p mk) (tree_begin c p) h
+      module _ (x : ContextId) (off : (asked c.tabs old).contexts.live x ≡ false) (dropped : b.parts ≡ ups.Drop x ∷ []) (flows : Flows h) (first : IsFirst (Own b) (writes_waiting h)) where
+        keeps : Keeps (tree_look c p mk) (tree_begin c p mk) h
         keeps = record { lawful = lawful c p mk l; flows = flows; fits = t.fits }
 
-        gone_x : is_of_its_tabs c p mk x ≡ true → life (tree_look c p mk) (tree_begin c p) x h ≡ Gone
-        gone_x m = by_stage (life look begin x h) refl
+        gone_x : life (tree_look c p mk) (tree_begin c p mk) x h ≡ Gone
+        gone_x = by_stage (life look begin x h) refl
           where
             needed : (tree_look c p mk).needs x (Own b) ≡ true
-            needed = ap₂ (λ u v. u && v) m (ap (parts_need x) dropped ∙ ap (λ v. v || false) (same_itself x))
+            needed = ap (parts_need x) dropped ∙ ap (λ v. v || false) (same_itself x)
 
-            named : is_known (tree_look c p mk) (tree_begin c p) x h ≡ true
+            named : is_known (tree_look c p mk) (tree_begin c p mk) x h ≡ true
             named = (good_ids look begin (Own b) h keeps runs first x).1 needed
 
-            by_stage : (v : Stage) → life (tree_look c p mk) (tree_begin c p) x h ≡ v → life (tree_look c p mk) (tree_begin c p) x h ≡ Gone
+            by_stage : (v : Stage) → life (tree_look c p mk) (tree_begin c p mk) x h ≡ v → life (tree_look c p mk) (tree_begin c p mk) x h ≡ Gone
             by_stage Gone is = is
-            by_stage Held is = true_false (is_held (life look begin x h)) (ap is_held is) (t.lives.live x m ∙ off)
+            by_stage Held is = true_false (is_held (life look begin x h)) (ap is_held is) (t.lives.live x ∙ off)
             by_stage Coming is = absurd (known_came look begin keeps.lawful x h t.fits runs named is)
 
         -- what is below it is gone too
-        gone_below : (z : ContextId) → is_among x (line z mk) ≡ true → life (tree_look c p mk) (tree_begin c p) x h ≡ Gone → life (tree_look c p mk) (tree_begin c p) z h ≡ Gone
+        gone_below : (z : ContextId) → is_among x (line z mk) ≡ true → life (tree_look c p mk) (tree_begin c p mk) x h ≡ Gone → life (tree_look c p mk) (tree_begin c p mk) z h ≡ Gone
         gone_below z on = up_the_line mk (λ y. life look begin y h ≡ Gone → life look begin z h ≡ Gone) l (λ y a gone up gone_a. gone (life_below look begin keeps.lawful y a up h gone_a)) (length (line z mk)) x z (omega arith) (λ gone. gone) on
 
-        drop_ignored : (z : ContextId) → Ignored ((tree_look c p mk).does z (Own b)) (life (tree_look c p mk) (tree_begin c p) z h)
-        drop_ignored z = by_mine (is_of_its_tabs c p mk z) refl
+        drop_ignored : (z : ContextId) → Ignored ((tree_look c p mk).does z (Own b)) (life (tree_look c p mk) (tree_begin c p mk) z h)
+        drop_ignored z = subst (λ a. Ignored a (life look begin z h)) (sym (ap (parts_do z (line z mk)) dropped ∙ both_stays (goes_if (is_among x (line z mk))))) (by_line (is_among x (line z mk)) refl)
           where
-            by_line : is_of_its_tabs c p mk z ≡ true → (v : Bool) → is_among x (line z mk) ≡ v → Ignored (goes_if v) (life (tree_look c p mk) (tree_begin c p) z h)
-            by_line m false isnt = tt
-            by_line m true on = gone_below z on (gone_x (ap (is_held_at_start c.tabs p) (root_of mk l x z on) ∙ m))
-
-            by_mine : (v : Bool) → is_of_its_tabs c p mk z ≡ v → Ignored (if v then parts_do z (line z mk) b.parts else Stays) (life (tree_look c p mk) (tree_begin c p) z h)
-            by_mine false m = tt
-            by_mine true m = subst (λ a. Ignored a (life look begin z h)) (sym (ap (parts_do z (line z mk)) dropped ∙ both_stays (goes_if (is_among x (line z mk))))) (by_line m (is_among x (line z mk)) refl)
+            by_line : (v : Bool) → is_among x (line z mk) ≡ v → Ignored (goes_if v) (life (tree_look c p mk) (tree_begin c p mk) z h)
+            by_line false isnt = tt
+            by_line true on = gone_below z on gone_x
 
         pub drop_kept : TreeFacts c p mk (asked c.tabs (ys ++ old)) (Ignores k (Own b) ∷ h)
         drop_kept = ignored drop_ignored
@@ -498,7 +478,7 @@ module _ (c : Config) (p : ℕ) (ms : List Moment) (m : Moment) (mk : List Makin
     abbrev old : List Saying
     old = said ms
 
-    saids : (core : List Saying) → Like c p (said ms) m.says core → FitsOver c (said ms) core → Saids c p mk l (said ms) ft m.says
+    saids : (core : List Saying) → Like c p (said ms) m.says core → FitsOver c (said ms) core → Saids c mk l (said ms) ft m.says
     saids core like fits = record { told = told; fits = like.fits fits }
 
     -- with the events of the process that the moment has
@@ -507,7 +487,7 @@ module _ (c : Config) (p : ℕ) (ms : List Moment) (m : Moment) (mk : List Makin
 
     pub made_keeps : (x a : ContextId) → HeardMade c p ms m b x a → TreeFacts c p mk (facts_now c (m ∷ ms)) (m.events p ++ events_of p ms)
     made_keeps x a e = with_events (Accepts (length ms + 1) (Own b) ∷ []) e.events
-        (accepted c p mk l old ft (events_of p ms) runs t m.says (saids (Made p x a ∷ []) like (e.fits, tt)) (like.alive (tt, tt)) b does hands names unmade by_itself (length ms + 1))
+        (accepted c p mk l old ft (events_of p ms) runs t m.says (saids (Made p x a ∷ []) like (e.fits, tt)) (like.alive (tt, tt)) (like.quiet (tt, tt)) b does hands names unmade by_itself (length ms + 1))
       where
         like : Like c p (said ms) m.says (Made p x a ∷ [])
         like = like_says c p ms m (Made p x a ∷ []) e.says
@@ -566,10 +546,10 @@ module _ (c : Config) (p : ℕ) (ms : List Moment) (m : Moment) (mk : List Makin
             let same : a ≡ y = some_is a y (sym (made_told told) ∙ sym (ap (above_in mk) is) ∙ up) in
             (ap (λ (w : ContextId). w.creator == p + 1) is ∙ own_x, subst (λ w. is_owner (asked c.tabs (m.says ++ said ms)) p w ≡ true) same (owner_above (subst (λ w. (asked c.tabs (m.says ++ said ms)).contexts.live w ≡ true) (sym same) live)))
 
-    pub late_keeps : (x a : ContextId) (d : DownBundle) → HeardLate c p ms m b x a d → TreeFacts c p mk (facts_now c (m ∷ ms)) (m.events p ++ events_of p ms)
-    late_keeps x a d e = with_events (Reverts (length ms + 1) (Own b) d ∷ []) e.events
-        (late c p mk l old ft (events_of p ms) runs t m.says (saids (BornDead p x a ∷ []) like (e.fits, tt)) (like.alive (tt, tt)) b (λ z. like.does z (line z mk)) like.hands names (length ms + 1)
-        d x a (born_told e.says.sent e.says.all_sent (subst (λ zs. AllByRecursion (IsToldBy mk) (makings_said zs)) e.says.is told)) e.fits.new e.parts e.back)
+    pub late_keeps : (x a : ContextId) (d : DownBundle) → Flows (events_of p ms) → IsFirst (Own b) (writes_waiting (events_of p ms)) → HeardLate c p ms m b x a d → TreeFacts c p mk (facts_now c (m ∷ ms)) (m.events p ++ events_of p ms)
+    late_keeps x a d flows first e = with_events (Reverts (length ms + 1) (Own b) d ∷ []) e.events
+        (late c p mk l old ft (events_of p ms) runs t m.says (saids (BornDead p x a ∷ []) like (e.fits, tt)) (like.alive (tt, tt)) (like.quiet (tt, tt)) b (λ z. like.does z (line z mk)) like.hands names (length ms + 1)
+        d x a (born_told e.says.sent e.says.all_sent (subst (λ zs. AllByRecursion (IsToldBy mk) (makings_said zs)) e.says.is told)) e.fits.new e.parts e.back flows first)
       where
         like : Like c p (said ms) m.says (BornDead p x a ∷ [])
         like = like_says c p ms m (BornDead p x a ∷ []) e.says
@@ -584,7 +564,7 @@ module _ (c : Config) (p : ℕ) (ms : List Moment) (m : Moment) (mk : List Makin
 
     pub drop_keeps : (x : ContextId) → HeardDrop c p ms m b x → TreeFacts c p mk (facts_now c (m ∷ ms)) (m.events p ++ events_of p ms)
     drop_keeps x e = with_events (Accepts (length ms + 1) (Own b) ∷ []) e.events
-        (accepted c p mk l old ft (events_of p ms) runs t m.says (saids (Removed x (Some p) ∷ []) like (e.live, tt)) (like.alive (tt, tt)) b
+        (accepted c p mk l old ft (events_of p ms) runs t m.says (saids (Removed x (Some p) ∷ []) like (e.live, tt)) (like.alive (tt, tt)) (like.quiet (tt, tt)) b
         (λ z. ap (parts_do z (line z mk)) e.parts ∙ sym (like.does z (line z mk))) (λ z. ap (parts_hand z) e.parts ∙ sym (like.hands z)) (λ z. ap (parts_create z) e.parts ∙ sym (like.names z))
         (λ z goes. like.creates z) (λ z y comes up live. never (is_among x (line z mk)) (sym (like.does z (line z mk)) ∙ comes)) (length ms + 1))
       where
@@ -597,15 +577,15 @@ module _ (c : Config) (p : ℕ) (ms : List Moment) (m : Moment) (mk : List Makin
 
     pub old_drop_keeps : (x : ContextId) → Flows (events_of p ms) → IsFirst (Own b) (writes_waiting (events_of p ms)) → HeardOldDrop c p ms m b x → TreeFacts c p mk (facts_now c (m ∷ ms)) (m.events p ++ events_of p ms)
     old_drop_keeps x flows first e = with_events (Ignores (length ms + 1) (Own b) ∷ []) e.events
-        (drop_kept c p mk l old ft (events_of p ms) runs t m.says (saids [] like tt) (like.alive tt) b (λ z. like.does z (line z mk)) like.hands (λ z. ap (parts_create z) e.parts ∙ sym (like.names z)) (length ms + 1)
-        x e.known e.dead e.parts flows first)
+        (drop_kept c p mk l old ft (events_of p ms) runs t m.says (saids [] like tt) (like.alive tt) (like.quiet tt) b (λ z. like.does z (line z mk)) like.hands (λ z. ap (parts_create z) e.parts ∙ sym (like.names z)) (length ms + 1)
+        x e.dead e.parts flows first)
       where
         like : Like c p (said ms) m.says []
         like = subst (λ zs. Like c p (said ms) zs []) (sym e.says) (like_sent c p (said ms) [] [] tt)
 
     pub acks_keep : HeardAcks c p ms m b → TreeFacts c p mk (facts_now c (m ∷ ms)) (m.events p ++ events_of p ms)
     acks_keep e = with_events (Accepts (length ms + 1) (Own b) ∷ []) e.events
-        (accepted c p mk l old ft (events_of p ms) runs t m.says (saids [] like tt) (like.alive tt) b
+        (accepted c p mk l old ft (events_of p ms) runs t m.says (saids [] like tt) (like.alive tt) (like.quiet tt) b
         (λ z. acks_do z (line z mk) b.parts e.parts ∙ sym (like.does z (line z mk))) (λ z. acks_hand z b.parts e.parts ∙ sym (like.hands z)) (λ z. acks_create z b.parts e.parts ∙ sym (like.names z))
         (λ z goes. like.creates z) (λ z y comes up live. never (sym (like.does z (line z mk)) ∙ comes)) (length ms + 1))
       where
@@ -632,8 +612,8 @@ module _ (c : Config) (p : ℕ) (ms : List Moment) (m : Moment) (mk : List Makin
 
     pub old_commit_keeps : (x : ContextId) (cs : Changes) → HeardOldCommit c p ms m b x cs → TreeFacts c p mk (facts_now c (m ∷ ms)) (m.events p ++ events_of p ms)
     old_commit_keeps x cs e = with_events (Ignores (length ms + 1) (Own b) ∷ []) e.events
-        (ignored c p mk l old ft (events_of p ms) runs t m.says (saids (Counted p ∷ []) like (tt, tt)) (like.alive (tt, tt)) b (λ z. like.does z (line z mk)) like.hands (λ z. ap (parts_create z) e.parts ∙ sym (like.names z)) (length ms + 1)
-        (λ z. subst (λ a. Ignored a (life (tree_look c p mk) (tree_begin c p) z (events_of p ms))) (sym (by_if (λ a. a ≡ Stays) (is_of_its_tabs c p mk z) (parts_do z (line z mk) b.parts) Stays (λ is. ap (parts_do z (line z mk)) e.parts) (λ isnt. refl))) tt))
+        (ignored c p mk l old ft (events_of p ms) runs t m.says (saids (Counted p ∷ []) like (tt, tt)) (like.alive (tt, tt)) (like.quiet (tt, tt)) b (λ z. like.does z (line z mk)) like.hands (λ z. ap (parts_create z) e.parts ∙ sym (like.names z)) (length ms + 1)
+        (λ z. subst (λ a. Ignored a (life (tree_look c p mk) (tree_begin c p mk) z (events_of p ms))) (sym (ap (parts_do z (line z mk)) e.parts)) tt))
       where
         like : Like c p (said ms) m.says (Counted p ∷ [])
         like = subst (λ zs. Like c p (said ms) zs (Counted p ∷ [])) (sym e.says) (like_sent c p (said ms) (Counted p ∷ []) [] tt)
@@ -660,17 +640,17 @@ module _ (c : Config) (p : ℕ) (ms : List Moment) (m : Moment) (mk : List Makin
     bundle_parts f [] d all is = none_some d (sym is)
     bundle_parts f (part ∷ parts) d all is = subst (λ (g : DownBundle). AllByRecursion IsCommit g.parts) (some_is (record { epoch = record { 0 = f.processes.commits_heard p }; parts = part ∷ parts }) d (sym is)) all
 
-    commits_tell : (z : ContextId) (ln : List ContextId) (parts : List DownPart) → AllByRecursion IsCommit parts → parts_tell z ln parts ≡ Stays
+    commits_tell : (z : ContextId) (ln : List ContextId) (parts : List DownPart) → AllByRecursion IsCommit parts → parts_tell z ln (singles parts) ≡ Stays
     commits_tell z ln [] all = refl
     commits_tell z ln (downs.Commit x cs ∷ parts) all = commits_tell z ln parts all.1
     commits_tell z ln (_ ∷ parts) all = absurd all.0
 
-    commits_bring : (z : ContextId) (parts : List DownPart) → AllByRecursion IsCommit parts → parts_bring z parts ≡ []
+    commits_bring : (z : ContextId) (parts : List DownPart) → AllByRecursion IsCommit parts → parts_bring z (singles parts) ≡ []
     commits_bring z [] all = refl
     commits_bring z (downs.Commit x cs ∷ parts) all = commits_bring z parts all.1
     commits_bring z (_ ∷ parts) all = absurd all.0
 
-    commits_hand : (z : ContextId) (parts : List DownPart) → AllByRecursion IsCommit parts → parts_handed z parts ≡ Same
+    commits_hand : (z : ContextId) (parts : List DownPart) → AllByRecursion IsCommit parts → parts_handed z (singles parts) ≡ Same
     commits_hand z [] all = refl
     commits_hand z (downs.Commit x cs ∷ parts) all = commits_hand z parts all.1
     commits_hand z (_ ∷ parts) all = absurd all.0
@@ -688,7 +668,7 @@ module _ (c : Config) (p : ℕ) (ms : List Moment) (m : Moment) (mk : List Makin
         live_then : (asked c.tabs (Counted p ∷ said ms)).contexts.live x ≡ true
         live_then = ap (λ (g : Facts). g.contexts.live x) (asked_more c.tabs (Counted p) (said ms)) ∙ counted_live (asked c.tabs (said ms)) x e.live
 
-        said_it : Saids c p mk l (said ms) ft m.says
+        said_it : Saids c mk l (said ms) ft m.says
         said_it = saids (Wrote x (applied ns cs) ∷ Counted p ∷ []) like (live_then, (tt, tt))
 
         does : (z : ContextId) → parts_do z (line z mk) b.parts ≡ Stays
@@ -702,19 +682,19 @@ module _ (c : Config) (p : ℕ) (ms : List Moment) (m : Moment) (mk : List Makin
 
         by_back : (o : Option DownBundle) → o ≡ bundle_for (facts_now c (m ∷ ms)) p (sent_back ns (facts_now c ms) x) → TreeFacts c p mk (asked c.tabs (m.says ++ said ms)) (heard_as o ++ events_of p ms)
         by_back None is =
-            accepted c p mk l old ft (events_of p ms) runs t m.says said_it (like.alive (tt, (tt, tt))) b
+            accepted c p mk l old ft (events_of p ms) runs t m.says said_it (like.alive (tt, (tt, tt))) (like.quiet (tt, (tt, tt))) b
             (λ z. does z ∙ sym (like.does z (line z mk))) (λ z. ap (parts_hand z) e.parts ∙ sym (like.hands z)) names
             (λ z goes. like.creates z) (λ z y comes up live. never (sym (like.does z (line z mk)) ∙ comes)) (length ms + 1)
         by_back (Some d) is =
             let all : AllByRecursion IsCommit d.parts = bundle_parts (facts_now c (m ∷ ms)) (sent_back ns (facts_now c ms) x) d (back_commits x (values_where (is_noted is_reverted ns) (facts_now c ms) x)) is in
-            reverted c p mk l old ft (events_of p ms) runs t m.says said_it (like.alive (tt, (tt, tt))) b (λ z. like.does z (line z mk)) like.hands names (length ms + 1)
+            reverted c p mk l old ft (events_of p ms) runs t m.says said_it (like.alive (tt, (tt, tt))) (like.quiet (tt, (tt, tt))) b (λ z. like.does z (line z mk)) like.hands names (length ms + 1)
             d does (λ z. commits_tell z (line z mk) d.parts all) (λ z. commits_bring z d.parts all) (λ z. commits_hand z d.parts all)
 
 pub heard_keeps : (c : Config) (p : ℕ) (ms : List Moment) (m : Moment) (mk : List Making) (b : UpBundle) → Lined mk → p < 16 → FactsTies c.tabs mk (facts_now c ms) → AllByRecursion (IsToldBy mk) (makings_said m.says)
     → (facts_now c ms).processes.ended p ≡ None → is_ended (events_of p ms) ≡ false → Flows (events_of p ms) → IsFirst (Own b) (writes_waiting (events_of p ms))
     → TreeFacts c p mk (facts_now c ms) (events_of p ms) → Hearing c p ms m b → TreeFacts c p mk (facts_now c (m ∷ ms)) (m.events p ++ events_of p ms)
 heard_keeps c p ms m mk b l low ft told alive runs flows first t (AsMade x a e) = made_keeps c p ms m mk b l ft told runs t x a e
-heard_keeps c p ms m mk b l low ft told alive runs flows first t (AsLate x a d e) = late_keeps c p ms m mk b l ft told runs t x a d e
+heard_keeps c p ms m mk b l low ft told alive runs flows first t (AsLate x a d e) = late_keeps c p ms m mk b l ft told runs t x a d flows first e
 heard_keeps c p ms m mk b l low ft told alive runs flows first t (AsDrop x e) = drop_keeps c p ms m mk b l ft told runs t x e
 heard_keeps c p ms m mk b l low ft told alive runs flows first t (AsOldDrop x e) = old_drop_keeps c p ms m mk b l ft told runs t x flows first e
 heard_keeps c p ms m mk b l low ft told alive runs flows first t (AsAcks e) = acks_keep c p ms m mk b l ft told runs t e

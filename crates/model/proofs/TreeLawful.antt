@@ -1,8 +1,14 @@
--- The look of a process at its trees is lawful: what goes takes all below it, and at the start both sides have the tabs.
+-- The look of a process at the trees is lawful: what goes takes all below it, and of the tabs of the start a process has
+-- those that it is told of.
 use Rattle.std.proofs.Common.{◌≡◌, ◌⊎◌, inl, inr, ℕ, ◌+◌, ◌==◌, Bool, true, false, ◌&&◌, if◌then◌else◌, Option, None, Some, List, [], ◌∷◌, refl, ap, sym, ◌∙◌, arith, eqb-true}
-use Rattle.std.specs.Prelude.{nat_lt, slice_get, ◌-◌}
+use Rattle.std.specs.Prelude.{is_some, nat_lt, slice_get, ◌-◌}
+use Rattle.std.specs.List.{list_any}
+use Rattle.std.specs.Option.{option_map, option_map_or}
 use Rattle.fission_ids.specs.declared.context.ContextId.{ContextId}
+use Rattle.fission_ids.specs.declared.group.GroupId.{GroupId}
+use Rattle.fission_ids.specs.declared.process.ProcSet.{ProcSet}
 use Rattle.fission_ids.specs.Ids.{same_context}
+use Rattle.fission_ids.specs.ProcSet.{has}
 use Rattle.wire_msgs.specs.declared.config.Config.{Config}
 use Rattle.wire_msgs.specs.declared.config.StartTab.{StartTab}
 use Rattle.wire_msgs.specs.declared.part.DownPart.{DownPart}
@@ -11,17 +17,20 @@ use Rattle.wire_msgs.specs.declared.part.UpPart.{UpPart}
 use Rattle.wire_msgs.specs.declared.part.UpPart.TheVariants as ups
 use Rattle.protocol.specs.Sayings.{Saying}
 use Rattle.protocol.specs.Sayings.Saying.{Opened, Made, Removed}
-use Rattle.protocol.specs.Start.{is_of_tab, is_held_at_start}
+use Rattle.protocol.specs.Fold.{or_later}
+use Rattle.protocol.specs.Questions.{option_any, is_subscribed}
+use Rattle.protocol.specs.Start.{nth_context, tab_of, is_live, processes_of_tab, is_of_tab, is_held_at_start, facts_at_start}
 use Rattle.traces.specs.Words.Stage.{Coming, Held, Gone}
 use Rattle.trees.specs.Look.{Effect}
 use Rattle.trees.specs.Look.Effect.{Stays, Comes, Goes}
 use Rattle.trees.specs.Rules.{Lawful}
-use Rattle.model.specs.Lines.{Making, line, above_in, is_among}
+use Rattle.model.specs.Lines.{Making, line, above_in, opened_in, group_in, is_among}
 use Rattle.model.specs.Moments.{Written}
 use Rattle.model.specs.Moments.Written.{Own, Raw, Said}
-use Rattle.model.specs.Trees.{comes_if, goes_if, both, parts_do, says_do, written_does, parts_tell, parts_create, says_create, written_creates, is_of_its_tabs, tree_look, stage_at_start, tree_begin}
+use Rattle.model.specs.Trees.{comes_if, goes_if, both, parts_do, says_do, written_does, parts_tell, parts_create, says_create, written_creates, registers_group, tree_look, held_if, tree_begin}
+use Rattle.model.specs.View.{singles}
 use Rattle.model.proofs.Cases.{both_true, either_true, none_some}
-use Rattle.model.proofs.Lining.{Lined}
+use Rattle.model.proofs.Lining.{Lined, group_step, group_top}
 use Rattle.model.proofs.Living.{both_goes, goes_later, goes_when, line_below}
 
 -- a later one of two goes if either does
@@ -79,17 +88,6 @@ module _ (c : Config) (p : ℕ) (mk : List Making) (l : Lined mk) where
       either_goes (goes_if (is_among w (line y mk))) (parts_tell y (line y mk) parts) (goes_if (is_among w (line x mk))) (parts_tell x (line x mk) parts) (goes_below x y w up) (downs_below x y parts up) e
   downs_below x y (_ ∷ parts) up e = downs_below x y parts up e
 
-  same_mine : (x y : ContextId) → above_in mk x ≡ Some y → is_of_its_tabs c p mk x ≡ is_of_its_tabs c p mk y
-  same_mine x y up = ap (is_held_at_start c.tabs p) (l.root_step x y up)
-
-  -- in a tree of its own, or in another
-  guarded : (x y : ContextId) (a b : Effect) → above_in mk x ≡ Some y → (b ≡ Goes → a ≡ Goes) → (if is_of_its_tabs c p mk y then b else Stays) ≡ Goes → (if is_of_its_tabs c p mk x then a else Stays) ≡ Goes
-  guarded x y a b up below e = by_mine (is_of_its_tabs c p mk y) e (same_mine x y up)
-    where
-      by_mine : (v : Bool) → (if v then b else Stays) ≡ Goes → is_of_its_tabs c p mk x ≡ v → (if is_of_its_tabs c p mk x then a else Stays) ≡ Goes
-      by_mine true e same = ap (λ (u : Bool). if u then a else Stays) same ∙ below e
-      by_mine false e same = absurd cc
-
   -- what is named as made comes or goes
   create_moves : (x : ContextId) (ln : List ContextId) (parts : List UpPart) → parts_create x parts ≡ true → parts_do x ln parts ≡ Stays → ⊥
   create_moves x ln [] e stays = absurd cc
@@ -122,43 +120,96 @@ module _ (c : Config) (p : ℕ) (mk : List Making) (l : Lined mk) where
   written_moves x ln (Raw b) e stays = create_moves x ln b.parts e stays
   written_moves x ln (Said says) e stays = say_moves x ln says e stays
 
-  held_tab : (x : ContextId) → is_held_at_start c.tabs p x ≡ true → x.creator ≡ 0
-  held_tab x e = eqb-true x.creator 0 (both_true (x.creator == 0) (nat_lt 0 x.serial) (some_tab (x.creator == 0 && nat_lt 0 x.serial) (slice_get c.tabs (x.serial - 1)) e)).0
+  -- a tab of the start has no creator
+  live_tab : (x : ContextId) → is_live c.tabs x ≡ true → x.creator ≡ 0
+  live_tab x e = eqb-true x.creator 0 (both_true (x.creator == 0) (nat_lt 0 x.serial) (some_tab (x.creator == 0 && nat_lt 0 x.serial) (slice_get c.tabs (x.serial - 1)) e)).0
     where
-      some_tab : (b : Bool) (o : Option StartTab) → is_of_tab p (if b then o else None) ≡ true → b ≡ true
+      some_tab : {A : Type 0} (b : Bool) (o : Option A) → is_some (if b then o else None) ≡ true → b ≡ true
       some_tab true o e = refl
       some_tab false o e = absurd cc
 
-  start_by : (x : ContextId) → (stage_at_start c p x ≡ Coming) ⊎ (is_held_at_start c.tabs p x ≡ true)
-  start_by x = by_held (is_held_at_start c.tabs p x) refl
+  held_live : (x : ContextId) → is_held_at_start c.tabs p x ≡ true → is_live c.tabs x ≡ true
+  held_live x e = by_tab (tab_of c.tabs x) e
     where
-      by_held : (b : Bool) → is_held_at_start c.tabs p x ≡ b → (stage_at_start c p x ≡ Coming) ⊎ (is_held_at_start c.tabs p x ≡ true)
-      by_held true is = inr is
-      by_held false isnt = inl (ap (λ (b : Bool). if b then Held else Coming) isnt)
+      by_tab : (o : Option StartTab) → is_of_tab p o ≡ true → is_some o ≡ true
+      by_tab (Some tab) e = refl
+      by_tab None e = absurd cc
 
-  pub lawful : Lawful (tree_look c p mk) (tree_begin c p)
+  -- and nothing is above it
+  live_top : (x : ContextId) → is_live c.tabs x ≡ true → above_in mk x ≡ None
+  live_top x e = l.tabs x (live_tab x e)
+
+  -- a process is told of a tab of the start exactly if it holds its context
+  tab_told : (x : ContextId) → is_live c.tabs x ≡ true → option_any (is_subscribed (facts_at_start c.tabs) p) (group_in c.tabs mk x) ≡ is_held_at_start c.tabs p x
+  tab_told x e = ap (option_any (is_subscribed (facts_at_start c.tabs) p)) (group_top c.tabs mk x (live_top x e)) ∙ by_tab (tab_of c.tabs x) refl e
+    where
+      numbered : ℕ → GroupId
+      numbered n = record { 0 = n }
+
+      nobody : ProcSet
+      nobody = record { 0 = 0 }
+
+      is_nth : nth_context x.serial ≡ x
+      is_nth = ap (λ (n : ℕ). record { creator = n; serial = x.serial }) (sym (live_tab x e))
+
+      by_tab : (o : Option StartTab) → tab_of c.tabs x ≡ o → is_some o ≡ true
+          → option_any (is_subscribed (facts_at_start c.tabs) p) (or_later (option_map (λ (t : StartTab). numbered x.serial) (tab_of c.tabs x)) (opened_in mk x)) ≡ is_of_tab p (tab_of c.tabs x)
+      by_tab None is e = absurd cc
+      by_tab (Some tab) is e =
+          ap (λ (o : Option StartTab). option_any (is_subscribed (facts_at_start c.tabs) p) (or_later (option_map (λ (t : StartTab). numbered x.serial) o) (opened_in mk x))) is
+          ∙ ap (λ (z : ContextId). has (option_map_or processes_of_tab (tab_of c.tabs z) nobody) p) is_nth
+          ∙ ap (λ (o : Option StartTab). has (option_map_or processes_of_tab o nobody) p) is
+          ∙ sym (ap (is_of_tab p) is)
+
+  -- who is told of a context at the start has it if it is live
+  told_start : (x : ContextId) → (tree_begin c p mk).is_told x ≡ true → is_held_at_start c.tabs p x ≡ is_live c.tabs x
+  told_start x told = by_live (is_live c.tabs x) refl
+    where
+      by_live : (v : Bool) → is_live c.tabs x ≡ v → is_held_at_start c.tabs p x ≡ is_live c.tabs x
+      by_live true is = sym (tab_told x is) ∙ told ∙ sym is
+      by_live false isnt = by_held (is_held_at_start c.tabs p x) refl
+        where
+          by_held : (v : Bool) → is_held_at_start c.tabs p x ≡ v → is_held_at_start c.tabs p x ≡ is_live c.tabs x
+          by_held true held = held ∙ sym (held_live x held)
+          by_held false unheld = unheld ∙ sym isnt
+
+  -- who isn't has nothing
+  untold_start : (x : ContextId) → (tree_begin c p mk).is_told x ≡ false → is_held_at_start c.tabs p x ≡ false
+  untold_start x untold = by_held (is_held_at_start c.tabs p x) refl
+    where
+      by_held : (v : Bool) → is_held_at_start c.tabs p x ≡ v → is_held_at_start c.tabs p x ≡ false
+      by_held true held = sym (tab_told x (held_live x held)) ∙ untold
+      by_held false unheld = unheld
+
+  start_by : (x : ContextId) → (held_if (is_live c.tabs x) ≡ Coming) ⊎ (is_live c.tabs x ≡ true)
+  start_by x = by_live (is_live c.tabs x) refl
+    where
+      by_live : (b : Bool) → is_live c.tabs x ≡ b → (held_if (is_live c.tabs x) ≡ Coming) ⊎ (is_live c.tabs x ≡ true)
+      by_live true is = inr is
+      by_live false isnt = inl (ap held_if isnt)
+
+  pub lawful : Lawful (tree_look c p mk) (tree_begin c p mk)
   lawful = record {
-    does_below = λ x y w up e. guarded x y (written_does x (line x mk) w) (written_does y (line y mk) w) up (written_below x y w up) e;
-    tells_below = λ x y d up e. guarded x y (parts_tell x (line x mk) d.parts) (parts_tell y (line y mk) d.parts) up (downs_below x y d.parts up) e;
-    creates_moves = λ x w e stays. moves x w (both_true (is_of_its_tabs c p mk x) (written_creates x w) e) stays;
-    has_live = λ e x. refl;
-    has_nothing = λ e x. absurd cc;
+    does_below = λ x y w up e. written_below x y w up e;
+    tells_below = λ x y d up e. downs_below x y (singles d.parts) up e;
+    creates_moves = λ x w e stays. written_moves x (line x mk) w e stays;
+    told_below = λ x y up. ap (option_any (is_subscribed (facts_at_start c.tabs) p)) (group_step c.tabs mk l x y up);
+    registers_below = λ x y d up. ap (option_any (λ g. list_any (registers_group g) d.parts)) (group_step c.tabs mk l x y up);
+    has_live = λ x told. ap held_if (told_start x told);
+    has_nothing = λ x untold. ap held_if (untold_start x untold);
     none_gone = λ x e. alive x (start_by x) e;
     none_own = λ x own. new_own x own (start_by x);
     none_below = λ x y up. new_below x y up (start_by x);
   }
     where
-      moves : (x : ContextId) (w : Written) → (is_of_its_tabs c p mk x ≡ true) × (written_creates x w ≡ true) → (if is_of_its_tabs c p mk x then written_does x (line x mk) w else Stays) ≡ Stays → ⊥
-      moves x w both stays = written_moves x (line x mk) w both.1 (sym (ap (λ (b : Bool). if b then written_does x (line x mk) w else Stays) both.0) ∙ stays)
-
-      alive : (x : ContextId) → (stage_at_start c p x ≡ Coming) ⊎ (is_held_at_start c.tabs p x ≡ true) → stage_at_start c p x ≡ Gone → ⊥
+      alive : (x : ContextId) → (held_if (is_live c.tabs x) ≡ Coming) ⊎ (is_live c.tabs x ≡ true) → held_if (is_live c.tabs x) ≡ Gone → ⊥
       alive x (inl new) e = absurd cc
-      alive x (inr held) e = let is : Held ≡ Gone = sym (ap (λ (b : Bool). if b then Held else Coming) held) ∙ e in absurd cc
+      alive x (inr live) e = let is : Held ≡ Gone = sym (ap held_if live) ∙ e in absurd cc
 
-      new_own : (x : ContextId) → (x.creator == p + 1) ≡ true → (stage_at_start c p x ≡ Coming) ⊎ (is_held_at_start c.tabs p x ≡ true) → stage_at_start c p x ≡ Coming
+      new_own : (x : ContextId) → (x.creator == p + 1) ≡ true → (held_if (is_live c.tabs x) ≡ Coming) ⊎ (is_live c.tabs x ≡ true) → held_if (is_live c.tabs x) ≡ Coming
       new_own x own (inl new) = new
-      new_own x own (inr held) = absurd (omega (arith, sym (eqb-true x.creator (p + 1) own) ∙ held_tab x held))
+      new_own x own (inr live) = absurd (omega (arith, sym (eqb-true x.creator (p + 1) own) ∙ live_tab x live))
 
-      new_below : (x y : ContextId) → above_in mk x ≡ Some y → (stage_at_start c p x ≡ Coming) ⊎ (is_held_at_start c.tabs p x ≡ true) → stage_at_start c p x ≡ Coming
+      new_below : (x y : ContextId) → above_in mk x ≡ Some y → (held_if (is_live c.tabs x) ≡ Coming) ⊎ (is_live c.tabs x ≡ true) → held_if (is_live c.tabs x) ≡ Coming
       new_below x y up (inl new) = new
-      new_below x y up (inr held) = none_some y (sym (l.tabs x (held_tab x held)) ∙ up)
+      new_below x y up (inr live) = none_some y (sym (live_top x live) ∙ up)

@@ -1,5 +1,5 @@
--- What a process does by itself keeps the rules of its trees, and it answers of them what its events tell.
-use Rattle.std.proofs.Common.{◌≡◌, ◌⊎◌, inl, inr, ℕ, ◌+◌, ◌<◌, Bool, true, false, not, ◌&&◌, ◌||◌, if◌then◌else◌, Some, List, [], ◌∷◌, refl, ap, ap₂, sym, subst, ◌∙◌, arith, eq-eqb}
+-- What a process does by itself keeps the rules of the trees, and it answers of them what its events tell.
+use Rattle.std.proofs.Common.{◌≡◌, ◌⊎◌, inl, inr, ℕ, ◌+◌, ◌<◌, Bool, true, false, not, ◌&&◌, ◌||◌, if◌then◌else◌, Some, List, [], ◌∷◌, length, refl, ap, sym, subst, ◌∙◌, arith, eq-eqb}
 use Rattle.std.specs.List.{AllByRecursion}
 use Rattle.fission_ids.specs.declared.context.ContextId.{ContextId}
 use Rattle.fission_ids.specs.Ids.{same_context}
@@ -12,9 +12,9 @@ use Rattle.protocol.specs.Questions.{option_any}
 use Rattle.protocol.specs.Seen.{Seen}
 use Rattle.protocol.specs.Seen.Doing.{Framed, Went}
 use Rattle.protocol.specs.SeenAfter.{seen_after}
-use Rattle.protocol.specs.Start.{is_held_at_start}
 use Rattle.traces.specs.Event.Event.{Writes}
 use Rattle.traces.specs.Links.{is_ended}
+use Rattle.traces.specs.Rules.{Flows}
 use Rattle.traces.specs.Words.{Stage}
 use Rattle.traces.specs.Words.Stage.{Coming, Held, Gone}
 use Rattle.trees.specs.Children.{owns}
@@ -22,17 +22,18 @@ use Rattle.trees.specs.Look.{Handing, moved, owned_behind, Look, Begin}
 use Rattle.trees.specs.Look.Effect.{Stays, Comes, Goes}
 use Rattle.trees.specs.Look.Handing.{Same, Given}
 use Rattle.trees.specs.Rules.{Above, Acts, OwnChild, HandsOver, is_coming, Wrote, Fits}
-use Rattle.trees.specs.Words.{stage, is_held}
+use Rattle.trees.specs.Words.{is_told, stage, is_held}
+use Rattle.trees.proofs.Agrees.{nothing_held, told_above}
 use Rattle.trees.proofs.Effects.{gone_behind, gone_before}
 use Rattle.model.specs.Lines.{Making, line, above_in, is_among}
 use Rattle.model.specs.Moments.{Written, ProcessEvent}
 use Rattle.model.specs.Moments.Written.{Own}
-use Rattle.model.specs.Trees.{comes_if, goes_if, later_hand, hand_if, parts_do, parts_make, parts_hand, parts_create, parts_need, parts_drop, is_of_its_tabs, tree_look, tree_begin}
-use Rattle.model.proofs.Cases.{by_if, both_true, true_false, same_context_is, same_itself, same_when, some_is}
+use Rattle.model.specs.Trees.{comes_if, goes_if, later_hand, hand_if, parts_do, parts_make, parts_hand, parts_create, parts_need, parts_drop, tree_look, tree_begin}
+use Rattle.model.proofs.Cases.{true_false, same_context_is, same_itself, same_when, some_is}
 use Rattle.model.proofs.Holding.{FramedFits, SeenTies}
 use Rattle.model.proofs.Lining.{Lined}
-use Rattle.model.proofs.Living.{both_stays, goes_when, in_line, root_of}
-use Rattle.model.proofs.TreeTold.{told_alive}
+use Rattle.model.proofs.Living.{both_stays, goes_when, in_line, up_the_line, held_only}
+use Rattle.model.proofs.TreeLawful.{lawful}
 
 -- a part that is nothing of a tree
 abbrev pub IsPlain : UpPart → Type 0
@@ -42,34 +43,35 @@ IsPlain part = ⊥
 
 -- a context that the process could make next is neither held nor gone, but with the one above
 pub record IsUnmade (c : Config) (p : ℕ) (mk : List Making) (x : ContextId) (g : List ProcessEvent) : Type 0 where
-  pub unheld : stage (tree_look c p mk) (tree_begin c p) x g ≡ Held → ⊥
-  pub with_above : stage (tree_look c p mk) (tree_begin c p) x g ≡ Gone → Above (tree_look c p mk) x (λ a. stage (tree_look c p mk) (tree_begin c p) a g ≡ Gone)
+  pub unheld : stage (tree_look c p mk) (tree_begin c p mk) x g ≡ Held → ⊥
+  pub with_above : stage (tree_look c p mk) (tree_begin c p mk) x g ≡ Gone → Above (tree_look c p mk) x (λ a. stage (tree_look c p mk) (tree_begin c p mk) a g ≡ Gone)
 
--- what the process answers of its trees is what its events tell
+-- what the process answers of the trees is what its events tell
 pub record TreeSeen (c : Config) (p : ℕ) (mk : List Making) (s : Seen) (g : List ProcessEvent) : Type 0 where
-  pub fits : Fits (tree_look c p mk) (tree_begin c p) g
-  pub stages : (x : ContextId) → is_of_its_tabs c p mk x ≡ true → is_held (stage (tree_look c p mk) (tree_begin c p) x g) ≡ s.holds x
-  pub owners : (x : ContextId) → is_of_its_tabs c p mk x ≡ true → s.holds x ≡ true → s.owns x ≡ owns (tree_look c p mk) (tree_begin c p) x g
+  pub fits : Fits (tree_look c p mk) (tree_begin c p mk) g
+  pub stages : (x : ContextId) → is_held (stage (tree_look c p mk) (tree_begin c p mk) x g) ≡ s.holds x
+  pub owners : (x : ContextId) → s.holds x ≡ true → s.owns x ≡ owns (tree_look c p mk) (tree_begin c p mk) x g
   pub unmade : (x : ContextId) → x.creator ≡ p + 1 → s.frames_made < x.serial → IsUnmade c p mk x g
-
-held_only : (s : Stage) → is_held s ≡ true → s ≡ Held
-held_only Coming e = absurd cc
-held_only Held e = refl
-held_only Gone e = absurd cc
 
 module _ (c : Config) (p : ℕ) (mk : List Making) (l : Lined mk) (s : Seen) (st : SeenTies c.tabs p mk s) (g : List ProcessEvent) (runs : is_ended g ≡ false) (t : TreeSeen c p mk s g) where
   abbrev look : Look ContextId Written DownBundle
   look = tree_look c p mk
 
   abbrev begin : Begin ContextId
-  begin = tree_begin c p
+  begin = tree_begin c p mk
 
-  -- what is held is in one of its trees, and has the stage
-  mine_held : (x : ContextId) → s.holds x ≡ true → is_of_its_tabs c p mk x ≡ true
-  mine_held x e = st.held_root x e
+  -- what is held has the stage
+  pub stage_held : (x : ContextId) → s.holds x ≡ true → stage (tree_look c p mk) (tree_begin c p mk) x g ≡ Held
+  stage_held x e = held_only (stage look begin x g) (t.stages x ∙ e)
 
-  pub stage_held : (x : ContextId) → s.holds x ≡ true → stage (tree_look c p mk) (tree_begin c p) x g ≡ Held
-  stage_held x e = held_only (stage look begin x g) (t.stages x (mine_held x e) ∙ e)
+  -- and the process is told of it
+  pub told_held : Flows g → (x : ContextId) → s.holds x ≡ true → is_told (tree_look c p mk) (tree_begin c p mk) x g ≡ true
+  told_held flows x e = by_told (is_told look begin x g) refl
+    where
+      by_told : (v : Bool) → is_told (tree_look c p mk) (tree_begin c p mk) x g ≡ v → is_told (tree_look c p mk) (tree_begin c p mk) x g ≡ true
+      by_told true told = told
+      by_told false untold =
+          let two : Held ≡ Coming = sym (stage_held x e) ∙ nothing_held look begin g (record { lawful = lawful c p mk l; flows = flows; fits = t.fits }) runs x untold in absurd cc
 
   -- ---- a write that is nothing of a tree
 
@@ -97,26 +99,22 @@ module _ (c : Config) (p : ℕ) (mk : List Making) (l : Lined mk) (s : Seen) (st
   plain_names x (ups.DropAck y ∷ parts) plain = plain_names x parts plain.1
   plain_names x (_ ∷ parts) plain = absurd plain.0
 
-  and_false : (b v : Bool) → v ≡ false → (b && v) ≡ false
-  and_false true v e = e
-  and_false false v e = refl
-
   module _ (b : UpBundle) (plain : AllByRecursion IsPlain b.parts) where
     stays : (x : ContextId) → (tree_look c p mk).does x (Own b) ≡ Stays
-    stays x = by_if (λ a. a ≡ Stays) (is_of_its_tabs c p mk x) (parts_do x (line x mk) b.parts) Stays (λ is. plain_does x (line x mk) b.parts plain) (λ isnt. refl)
+    stays x = plain_does x (line x mk) b.parts plain
 
     same_hand : (x : ContextId) → (tree_look c p mk).hands x (Own b) ≡ Same
-    same_hand x = by_if (λ a. a ≡ Same) (is_of_its_tabs c p mk x) (parts_hand x b.parts) Same (λ is. plain_hands x b.parts plain) (λ isnt. refl)
+    same_hand x = plain_hands x b.parts plain
 
-    plain_wrote : (x : ContextId) → Wrote (tree_look c p mk) (tree_begin c p) (Own b) x g
+    plain_wrote : (x : ContextId) → Wrote (tree_look c p mk) (tree_begin c p mk) (Own b) x g
     plain_wrote x = record {
       acts = subst (Acts look begin x g) (sym (stays x)) tt;
-      children = subst (AllByRecursion (OwnChild look x (Own b))) (sym (by_if (λ xs. xs ≡ []) (is_of_its_tabs c p mk x) (parts_make x b.parts) [] (λ is. plain_makes x b.parts plain) (λ isnt. refl))) tt;
+      children = subst (AllByRecursion (OwnChild look x (Own b))) (sym (plain_makes x b.parts plain)) tt;
       hands = subst (λ a. HandsOver a (look.hands x (Own b))) (sym (stays x)) (same_hand x);
-      creates = and_false (is_of_its_tabs c p mk x) (parts_create x b.parts) (plain_names x b.parts plain).0 ∙ sym (ap is_coming (stays x));
-      needs = λ e. true_false (is_of_its_tabs c p mk x && parts_need x b.parts) e (and_false (is_of_its_tabs c p mk x) (parts_need x b.parts) (plain_names x b.parts plain).1);
-      drops = λ e. true_false (is_of_its_tabs c p mk x && parts_drop x b.parts) e (and_false (is_of_its_tabs c p mk x) (parts_drop x b.parts) (plain_names x b.parts plain).2);
-      drops_below = λ e. true_false (is_of_its_tabs c p mk x && parts_drop x b.parts) e (and_false (is_of_its_tabs c p mk x) (parts_drop x b.parts) (plain_names x b.parts plain).2);
+      creates = (plain_names x b.parts plain).0 ∙ sym (ap is_coming (stays x));
+      needs = λ e. true_false (parts_need x b.parts) e (plain_names x b.parts plain).1;
+      drops = λ e. true_false (parts_drop x b.parts) e (plain_names x b.parts plain).2;
+      drops_below = λ e. true_false (parts_drop x b.parts) e (plain_names x b.parts plain).2;
       goes = λ e. let two : Stays ≡ Goes = sym (stays x) ∙ e in absurd cc;
     }
 
@@ -124,15 +122,15 @@ module _ (c : Config) (p : ℕ) (mk : List Making) (l : Lined mk) (s : Seen) (st
     pub wrote_plain : (s' : Seen) → ((x : ContextId) → s'.holds x ≡ s.holds x) → ((x : ContextId) → s'.owns x ≡ s.owns x) → s'.frames_made ≡ s.frames_made → TreeSeen c p mk s' (Writes (Own b) ∷ g)
     wrote_plain s' holds owning made = record {
       fits = ((λ r. plain_wrote), t.fits);
-      stages = λ x m. ap (λ a. is_held (moved a (stage look begin x g))) (stays x) ∙ t.stages x m ∙ sym (holds x);
-      owners = λ x m held. owning x ∙ t.owners x m (sym (holds x) ∙ held) ∙ sym (ap (λ a. owned_behind a (owns look begin x g)) (same_hand x));
+      stages = λ x. ap (λ a. is_held (moved a (stage look begin x g))) (stays x) ∙ t.stages x ∙ sym (holds x);
+      owners = λ x held. owning x ∙ t.owners x (sym (holds x) ∙ held) ∙ sym (ap (λ a. owned_behind a (owns look begin x g)) (same_hand x));
       unmade = λ x own later. let u : IsUnmade c p mk x g = t.unmade x own (subst (λ n. n < x.serial) made later) in record {
         unheld = λ e. u.unheld (sym (ap (λ a. moved a (stage look begin x g)) (stays x)) ∙ e);
         with_above = λ e. still x (u.with_above (sym (ap (λ a. moved a (stage look begin x g)) (stays x)) ∙ e));
       };
     }
       where
-        still : (x : ContextId) → Above (tree_look c p mk) x (λ a. stage (tree_look c p mk) (tree_begin c p) a g ≡ Gone) → Above (tree_look c p mk) x (λ a. stage (tree_look c p mk) (tree_begin c p) a (Writes (Own b) ∷ g) ≡ Gone)
+        still : (x : ContextId) → Above (tree_look c p mk) x (λ a. stage (tree_look c p mk) (tree_begin c p mk) a g ≡ Gone) → Above (tree_look c p mk) x (λ a. stage (tree_look c p mk) (tree_begin c p mk) a (Writes (Own b) ∷ g) ≡ Gone)
         still x (a, up, gone) = (a, up, ap (λ d. moved d (stage look begin a g)) (stays a) ∙ gone)
 
   -- ---- a frame
@@ -144,72 +142,40 @@ module _ (c : Config) (p : ℕ) (mk : List Making) (l : Lined mk) (s : Seen) (st
     later_z : s.frames_made < z.serial
     later_z = omega (arith, ap (λ (x : ContextId). x.serial) fits.next)
 
-    mine_a : is_of_its_tabs c p mk a ≡ true
-    mine_a = mine_held a fits.held
-
-    mine_z : is_of_its_tabs c p mk z ≡ true
-    mine_z = ap (is_held_at_start c.tabs p) (l.root_step z a fits.made) ∙ mine_a
-
-    unheld_z : s.holds z ≡ true → ⊥
-    unheld_z held = omega (arith, later_z, st.held_own z held own_z)
-
-    apart : same_context z a ≡ false
-    apart = by_test (same_context z a) refl
-      where
-        by_test : (v : Bool) → same_context z a ≡ v → same_context z a ≡ false
-        by_test false e = e
-        by_test true e = absurd (unheld_z (ap s.holds (same_context_is z a e) ∙ fits.held))
-
-    pub new_z : stage (tree_look c p mk) (tree_begin c p) z g ≡ Coming
+    pub new_z : stage (tree_look c p mk) (tree_begin c p mk) z g ≡ Coming
     new_z = by_stage (stage look begin z g) refl
       where
         u : IsUnmade c p mk z g
         u = t.unmade z own_z later_z
 
-        lost : Above (tree_look c p mk) z (λ y. stage (tree_look c p mk) (tree_begin c p) y g ≡ Gone) → ⊥
+        lost : Above (tree_look c p mk) z (λ y. stage (tree_look c p mk) (tree_begin c p mk) y g ≡ Gone) → ⊥
         lost (y, up, gone) =
             let same : a ≡ y = some_is a y (sym fits.made ∙ up) in
             let two : Held ≡ Gone = sym (stage_held a fits.held) ∙ ap (λ w. stage look begin w g) same ∙ gone in absurd cc
 
-        by_stage : (v : Stage) → stage (tree_look c p mk) (tree_begin c p) z g ≡ v → stage (tree_look c p mk) (tree_begin c p) z g ≡ Coming
+        by_stage : (v : Stage) → stage (tree_look c p mk) (tree_begin c p mk) z g ≡ v → stage (tree_look c p mk) (tree_begin c p mk) z g ≡ Coming
         by_stage Coming e = e
         by_stage Held e = absurd (u.unheld e)
         by_stage Gone e = absurd (lost (u.with_above e))
 
     does_z : (x : ContextId) → (tree_look c p mk).does x (Own b) ≡ comes_if (same_context x z)
-    does_z x = by_mine (is_of_its_tabs c p mk x) refl
-      where
-        by_mine : (v : Bool) → is_of_its_tabs c p mk x ≡ v → (if v then parts_do x (line x mk) b.parts else Stays) ≡ comes_if (same_context x z)
-        by_mine true m = ap (parts_do x (line x mk)) is ∙ both_stays (comes_if (same_context x z))
-        by_mine false m = by_same (same_context x z) refl
-          where
-            by_same : (v : Bool) → same_context x z ≡ v → Stays ≡ comes_if v
-            by_same false e = refl
-            by_same true e = true_false (is_of_its_tabs c p mk x) (ap (is_of_its_tabs c p mk) (same_context_is x z e) ∙ mine_z) m
+    does_z x = ap (parts_do x (line x mk)) is ∙ both_stays (comes_if (same_context x z))
 
     hands_z : (x : ContextId) → (tree_look c p mk).hands x (Own b) ≡ (if same_context x z then Given else Same)
-    hands_z x = by_mine (is_of_its_tabs c p mk x) refl
+    hands_z x = ap (parts_hand x) is ∙ later_one (same_context x z)
       where
         later_one : (v : Bool) → later_hand Same (hand_if v Given) ≡ (if v then Given else Same)
         later_one true = refl
         later_one false = refl
 
-        by_mine : (v : Bool) → is_of_its_tabs c p mk x ≡ v → (if v then parts_hand x b.parts else Same) ≡ (if same_context x z then Given else Same)
-        by_mine true m = ap (parts_hand x) is ∙ later_one (same_context x z)
-        by_mine false m = by_same (same_context x z) refl
-          where
-            by_same : (v : Bool) → same_context x z ≡ v → Same ≡ (if v then Given else Same)
-            by_same false e = refl
-            by_same true e = true_false (is_of_its_tabs c p mk x) (ap (is_of_its_tabs c p mk) (same_context_is x z e) ∙ mine_z) m
-
-    frame_acts : (x : ContextId) → Acts (tree_look c p mk) (tree_begin c p) x g (comes_if (same_context x z))
-    frame_acts x = by_same (same_context x z) refl
+    frame_acts : Flows g → (x : ContextId) → Acts (tree_look c p mk) (tree_begin c p mk) x g (comes_if (same_context x z))
+    frame_acts flows x = by_same (same_context x z) refl
       where
-        by_same : (v : Bool) → same_context x z ≡ v → Acts (tree_look c p mk) (tree_begin c p) x g (comes_if v)
+        by_same : (v : Bool) → same_context x z ≡ v → Acts (tree_look c p mk) (tree_begin c p mk) x g (comes_if v)
         by_same false e = tt
         by_same true e =
             let same : x ≡ z = same_context_is x z e in record {
-              told = told_alive c p mk g runs;
+              told = ap (λ y. is_told look begin y g) same ∙ (told_above look begin (lawful c p mk l) z a fits.made g ∙ told_held flows a fits.held);
               own = eq-eqb x.creator (p + 1) (ap (λ (y : ContextId). y.creator) same ∙ own_z);
               new = ap (λ y. stage look begin y g) same ∙ new_z;
               below = (a, ap (above_in mk) same ∙ fits.made, stage_held a fits.held);
@@ -219,15 +185,7 @@ module _ (c : Config) (p : ℕ) (mk : List Making) (l : Lined mk) (s : Seen) (st
     frame_children x = subst (AllByRecursion (OwnChild look x (Own b))) (sym makes_is) (by_same (same_context x a) refl)
       where
         makes_is : (tree_look c p mk).makes x (Own b) ≡ (if same_context x a then z ∷ [] else [])
-        makes_is = by_mine (is_of_its_tabs c p mk x) refl
-          where
-            by_mine : (v : Bool) → is_of_its_tabs c p mk x ≡ v → (if v then parts_make x b.parts else []) ≡ (if same_context x a then z ∷ [] else [])
-            by_mine true m = ap (parts_make x) is
-            by_mine false m = by_test (same_context x a) refl
-              where
-                by_test : (v : Bool) → same_context x a ≡ v → [] ≡ (if v then z ∷ [] else [])
-                by_test false e = refl
-                by_test true e = true_false (is_of_its_tabs c p mk x) (ap (is_of_its_tabs c p mk) (same_context_is x a e) ∙ mine_a) m
+        makes_is = ap (parts_make x) is
 
         by_same : (v : Bool) → same_context x a ≡ v → AllByRecursion (OwnChild (tree_look c p mk) x (Own b)) (if v then z ∷ [] else [])
         by_same false e = tt
@@ -241,22 +199,19 @@ module _ (c : Config) (p : ℕ) (mk : List Making) (l : Lined mk) (s : Seen) (st
         )
 
     needs_a : (x : ContextId) → (tree_look c p mk).needs x (Own b) ≡ true → x ≡ a
-    needs_a x e = by_need (both_true (is_of_its_tabs c p mk x) (parts_need x b.parts) e).1
+    needs_a x e = same_context_is x a (only (same_context x a) (not (same_context x z)) (sym (ap (parts_need x) is) ∙ e))
       where
         only : (u v : Bool) → (u || (v && false)) ≡ true → u ≡ true
         only true v e = refl
         only false true e = absurd cc
         only false false e = absurd cc
 
-        by_need : parts_need x b.parts ≡ true → x ≡ a
-        by_need need = same_context_is x a (only (same_context x a) (not (same_context x z)) (sym (ap (parts_need x) is) ∙ need))
-
     drops_none : (x : ContextId) → (tree_look c p mk).drops x (Own b) ≡ true → {A : Type 0} → A
-    drops_none x e = true_false (parts_drop x b.parts) (both_true (is_of_its_tabs c p mk x) (parts_drop x b.parts) e).1 (ap (parts_drop x) is)
+    drops_none x e = true_false (parts_drop x b.parts) e (ap (parts_drop x) is)
 
-    frame_wrote : (x : ContextId) → Wrote (tree_look c p mk) (tree_begin c p) (Own b) x g
-    frame_wrote x = record {
-      acts = subst (Acts look begin x g) (sym (does_z x)) (frame_acts x);
+    frame_wrote : Flows g → (x : ContextId) → Wrote (tree_look c p mk) (tree_begin c p mk) (Own b) x g
+    frame_wrote flows x = record {
+      acts = subst (Acts look begin x g) (sym (does_z x)) (frame_acts flows x);
       children = frame_children x;
       hands = subst (λ d. HandsOver d (look.hands x (Own b))) (sym (does_z x)) (by_same (same_context x z) (hands_z x));
       creates = creates_is;
@@ -279,29 +234,25 @@ module _ (c : Config) (p : ℕ) (mk : List Making) (l : Lined mk) (s : Seen) (st
         or_none false = refl
 
         creates_is : (tree_look c p mk).creates x (Own b) ≡ is_coming ((tree_look c p mk).does x (Own b))
-        creates_is = by_mine (is_of_its_tabs c p mk x) refl
-          where
-            by_mine : (v : Bool) → is_of_its_tabs c p mk x ≡ v → (v && parts_create x b.parts) ≡ is_coming ((tree_look c p mk).does x (Own b))
-            by_mine true m = ap (parts_create x) is ∙ or_none (same_context x z) ∙ sym (ap is_coming (does_z x))
-            by_mine false m = sym (ap is_coming (ap (λ (u : Bool). if u then parts_do x (line x mk) b.parts else Stays) m))
+        creates_is = ap (parts_create x) is ∙ or_none (same_context x z) ∙ sym (ap is_coming (does_z x))
 
-    pub wrote_frame : TreeSeen c p mk (seen_after p (Framed z a) s) (Writes (Own b) ∷ g)
+    pub wrote_frame : Flows g → TreeSeen c p mk (seen_after p (Framed z a) s) (Writes (Own b) ∷ g)
     unfolding seen_after
-    wrote_frame = record {
-      fits = ((λ r. frame_wrote), t.fits);
-      stages = λ x m. ap (λ d. is_held (moved d (stage look begin x g))) (does_z x) ∙ by_stage x m (same_context x z) refl;
-      owners = λ x m held. by_owner x m (same_context x z) refl held ∙ sym (ap (λ d. owned_behind d (owns look begin x g)) (hands_z x));
+    wrote_frame flows = record {
+      fits = ((λ r. frame_wrote flows), t.fits);
+      stages = λ x. ap (λ d. is_held (moved d (stage look begin x g))) (does_z x) ∙ by_stage x (same_context x z) refl;
+      owners = λ x held. by_owner x (same_context x z) refl held ∙ sym (ap (λ d. owned_behind d (owns look begin x g)) (hands_z x));
       unmade = λ x own later. by_unmade x own later;
     }
       where
-        by_stage : (x : ContextId) → is_of_its_tabs c p mk x ≡ true → (v : Bool) → same_context x z ≡ v → is_held (moved (comes_if v) (stage (tree_look c p mk) (tree_begin c p) x g)) ≡ (if v then true else s.holds x)
-        by_stage x m true e = ap (λ w. is_held (moved Comes w)) (ap (λ y. stage look begin y g) (same_context_is x z e) ∙ new_z)
-        by_stage x m false e = t.stages x m
+        by_stage : (x : ContextId) → (v : Bool) → same_context x z ≡ v → is_held (moved (comes_if v) (stage (tree_look c p mk) (tree_begin c p mk) x g)) ≡ (if v then true else s.holds x)
+        by_stage x true e = ap (λ w. is_held (moved Comes w)) (ap (λ y. stage look begin y g) (same_context_is x z e) ∙ new_z)
+        by_stage x false e = t.stages x
 
-        by_owner : (x : ContextId) → is_of_its_tabs c p mk x ≡ true → (v : Bool) → same_context x z ≡ v → (if v then true else s.holds x) ≡ true
-            → (if v then true else s.owns x) ≡ owned_behind (if v then Given else Same) (owns (tree_look c p mk) (tree_begin c p) x g)
-        by_owner x m true e held = refl
-        by_owner x m false e held = t.owners x m held
+        by_owner : (x : ContextId) → (v : Bool) → same_context x z ≡ v → (if v then true else s.holds x) ≡ true
+            → (if v then true else s.owns x) ≡ owned_behind (if v then Given else Same) (owns (tree_look c p mk) (tree_begin c p mk) x g)
+        by_owner x true e held = refl
+        by_owner x false e held = t.owners x held
 
         by_unmade : (x : ContextId) → x.creator ≡ p + 1 → s.frames_made + 1 < x.serial → IsUnmade c p mk x (Writes (Own b) ∷ g)
         by_unmade x own later = let u : IsUnmade c p mk x g = t.unmade x own (omega (arith, later)) in record {
@@ -316,50 +267,43 @@ module _ (c : Config) (p : ℕ) (mk : List Making) (l : Lined mk) (s : Seen) (st
                 by_test false e = e
                 by_test true e = absurd (omega (arith, later, ap (λ (y : ContextId). y.serial) (same_context_is x z e), ap (λ (y : ContextId). y.serial) fits.next))
 
-            same_stage : stage (tree_look c p mk) (tree_begin c p) x (Writes (Own b) ∷ g) ≡ stage (tree_look c p mk) (tree_begin c p) x g
+            same_stage : stage (tree_look c p mk) (tree_begin c p mk) x (Writes (Own b) ∷ g) ≡ stage (tree_look c p mk) (tree_begin c p mk) x g
             same_stage = ap (λ d. moved d (stage look begin x g)) (does_z x ∙ ap comes_if other)
 
-            still : Above (tree_look c p mk) x (λ y. stage (tree_look c p mk) (tree_begin c p) y g ≡ Gone) → Above (tree_look c p mk) x (λ y. stage (tree_look c p mk) (tree_begin c p) y (Writes (Own b) ∷ g) ≡ Gone)
+            still : Above (tree_look c p mk) x (λ y. stage (tree_look c p mk) (tree_begin c p mk) y g ≡ Gone) → Above (tree_look c p mk) x (λ y. stage (tree_look c p mk) (tree_begin c p mk) y (Writes (Own b) ∷ g) ≡ Gone)
             still (y, up, gone) = (y, up, gone_behind (look.does y (Own b)) (stage look begin y g) gone)
 
   -- ---- a drop
 
   module _ (b : UpBundle) (y : ContextId) (held_y : s.holds y ≡ true) (owned_above : option_any s.owns (s.above y) ≡ true) (is : b.parts ≡ ups.Drop y ∷ []) where
-    mine_y : is_of_its_tabs c p mk y ≡ true
-    mine_y = mine_held y held_y
-
-    mine_below : (x : ContextId) → is_among y (line x mk) ≡ true → is_of_its_tabs c p mk x ≡ true
-    mine_below x e = ap (is_held_at_start c.tabs p) (sym (root_of mk l y x e)) ∙ mine_y
-
     does_y : (x : ContextId) → (tree_look c p mk).does x (Own b) ≡ goes_if (is_among y (line x mk))
-    does_y x = by_mine (is_of_its_tabs c p mk x) refl
-      where
-        by_mine : (v : Bool) → is_of_its_tabs c p mk x ≡ v → (if v then parts_do x (line x mk) b.parts else Stays) ≡ goes_if (is_among y (line x mk))
-        by_mine true m = ap (parts_do x (line x mk)) is ∙ both_stays (goes_if (is_among y (line x mk)))
-        by_mine false m = by_line (is_among y (line x mk)) refl
-          where
-            by_line : (v : Bool) → is_among y (line x mk) ≡ v → Stays ≡ goes_if v
-            by_line false e = refl
-            by_line true e = true_false (is_of_its_tabs c p mk x) (mine_below x e) m
+    does_y x = ap (parts_do x (line x mk)) is ∙ both_stays (goes_if (is_among y (line x mk)))
 
     hands_y : (x : ContextId) → (tree_look c p mk).hands x (Own b) ≡ Same
-    hands_y x = by_if (λ d. d ≡ Same) (is_of_its_tabs c p mk x) (parts_hand x b.parts) Same (λ m. ap (parts_hand x) is) (λ isnt. refl)
+    hands_y x = ap (parts_hand x) is
 
-    drop_wrote : (x : ContextId) → Wrote (tree_look c p mk) (tree_begin c p) (Own b) x g
-    drop_wrote x = record {
-      acts = subst (Acts look begin x g) (sym (does_y x)) (by_acts (is_among y (line x mk)));
-      children = subst (AllByRecursion (OwnChild look x (Own b))) (sym (by_if (λ xs. xs ≡ []) (is_of_its_tabs c p mk x) (parts_make x b.parts) [] (λ m. ap (parts_make x) is) (λ isnt. refl))) tt;
+    -- the process is told of all that is below it
+    told_below_y : Flows g → (x : ContextId) → is_among y (line x mk) ≡ true → is_told (tree_look c p mk) (tree_begin c p mk) x g ≡ true
+    told_below_y flows x among =
+        let same : is_told (tree_look c p mk) (tree_begin c p mk) y g ≡ is_told (tree_look c p mk) (tree_begin c p mk) x g =
+        up_the_line mk (λ w. is_told look begin w g ≡ is_told look begin x g) l (λ w a so up. sym (told_above look begin (lawful c p mk l) w a up g) ∙ so) (length (line x mk)) y x (omega arith) refl among in
+        sym same ∙ told_held flows y held_y
+
+    drop_wrote : Flows g → (x : ContextId) → Wrote (tree_look c p mk) (tree_begin c p mk) (Own b) x g
+    drop_wrote flows x = record {
+      acts = subst (Acts look begin x g) (sym (does_y x)) (by_acts (is_among y (line x mk)) refl);
+      children = subst (AllByRecursion (OwnChild look x (Own b))) (sym (ap (parts_make x) is)) tt;
       hands = subst (λ d. HandsOver d (look.hands x (Own b))) (sym (does_y x)) (by_hand (is_among y (line x mk)));
-      creates = and_false (is_of_its_tabs c p mk x) (parts_create x b.parts) (ap (parts_create x) is) ∙ sym (ap is_coming (does_y x) ∙ never_comes (is_among y (line x mk)));
+      creates = ap (parts_create x) is ∙ sym (ap is_coming (does_y x) ∙ never_comes (is_among y (line x mk)));
       needs = λ e. ap (λ w. stage look begin w g) (named_need e) ∙ stage_held y held_y;
       drops = λ e. ap (λ w. stage look begin w g) (named_drop e) ∙ stage_held y held_y;
       drops_below = λ e a up. owner_above (named_drop e) a up;
       goes = λ e. by_place (in_line mk l y x (goes_when (is_among y (line x mk)) (sym (does_y x) ∙ e)));
     }
       where
-        by_acts : (v : Bool) → Acts (tree_look c p mk) (tree_begin c p) x g (goes_if v)
-        by_acts true = told_alive c p mk g runs
-        by_acts false = tt
+        by_acts : (v : Bool) → is_among y (line x mk) ≡ v → Acts (tree_look c p mk) (tree_begin c p mk) x g (goes_if v)
+        by_acts true among = told_below_y flows x among
+        by_acts false among = tt
 
         by_hand : (v : Bool) → HandsOver (goes_if v) ((tree_look c p mk).hands x (Own b))
         by_hand true = hands_y x
@@ -374,27 +318,27 @@ module _ (c : Config) (p : ℕ) (mk : List Making) (l : Lined mk) (s : Seen) (st
         or_false false e = absurd cc
 
         named_need : (tree_look c p mk).needs x (Own b) ≡ true → x ≡ y
-        named_need e = same_context_is x y (or_false (same_context x y) (sym (ap (parts_need x) is) ∙ (both_true (is_of_its_tabs c p mk x) (parts_need x b.parts) e).1))
+        named_need e = same_context_is x y (or_false (same_context x y) (sym (ap (parts_need x) is) ∙ e))
 
         named_drop : (tree_look c p mk).drops x (Own b) ≡ true → x ≡ y
-        named_drop e = same_context_is x y (or_false (same_context x y) (sym (ap (parts_drop x) is) ∙ (both_true (is_of_its_tabs c p mk x) (parts_drop x b.parts) e).1))
+        named_drop e = same_context_is x y (or_false (same_context x y) (sym (ap (parts_drop x) is) ∙ e))
 
-        owner_above : x ≡ y → (a : ContextId) → above_in mk x ≡ Some a → owns (tree_look c p mk) (tree_begin c p) a g ≡ true
+        owner_above : x ≡ y → (a : ContextId) → above_in mk x ≡ Some a → owns (tree_look c p mk) (tree_begin c p mk) a g ≡ true
         owner_above same a up =
             let up_y : above_in mk y ≡ Some a = ap (above_in mk) (sym same) ∙ up in
             let held_a : s.holds a ≡ true = st.above_held y a held_y up_y in
-            sym (t.owners a (mine_held a held_a) held_a) ∙ sym (ap (option_any s.owns) (st.held_above y held_y ∙ up_y)) ∙ owned_above
+            sym (t.owners a held_a) ∙ sym (ap (option_any s.owns) (st.held_above y held_y ∙ up_y)) ∙ owned_above
 
         by_place : (y ≡ x) ⊎ ((a : ContextId) × (above_in mk x ≡ Some a) × (is_among y (line a mk) ≡ true)) → ((tree_look c p mk).drops x (Own b) ≡ true) ⊎ Above (tree_look c p mk) x (λ a. (tree_look c p mk).does a (Own b) ≡ Goes)
-        by_place (inl same) = inl (ap₂ (λ u v. u && v) (ap (is_of_its_tabs c p mk) (sym same) ∙ mine_y) (ap (parts_drop x) is ∙ ap (λ v. v || false) (same_when x y (sym same))))
+        by_place (inl same) = inl (ap (parts_drop x) is ∙ ap (λ v. v || false) (same_when x y (sym same)))
         by_place (inr (a, up, more)) = inr (a, up, does_y a ∙ ap goes_if more)
 
-    pub wrote_drop : TreeSeen c p mk (seen_after p (Went y) s) (Writes (Own b) ∷ g)
+    pub wrote_drop : Flows g → TreeSeen c p mk (seen_after p (Went y) s) (Writes (Own b) ∷ g)
     unfolding seen_after
-    wrote_drop = record {
-      fits = ((λ r. drop_wrote), t.fits);
-      stages = λ x m. ap (λ d. is_held (moved d (stage look begin x g))) (does_y x) ∙ by_held x m (s.holds x) refl;
-      owners = λ x m held. ap (λ (u : Bool). if u then false else s.owns x) (left x held).0 ∙ t.owners x m (left x held).1 ∙ sym (ap (λ d. owned_behind d (owns look begin x g)) (hands_y x));
+    wrote_drop flows = record {
+      fits = ((λ r. drop_wrote flows), t.fits);
+      stages = λ x. ap (λ d. is_held (moved d (stage look begin x g))) (does_y x) ∙ by_held x (s.holds x) refl;
+      owners = λ x held. ap (λ (u : Bool). if u then false else s.owns x) (left x held).0 ∙ t.owners x (left x held).1 ∙ sym (ap (λ d. owned_behind d (owns look begin x g)) (hands_y x));
       unmade = λ x own later. by_unmade x own later (t.unmade x own later);
     }
       where
@@ -409,13 +353,13 @@ module _ (c : Config) (p : ℕ) (mk : List Making) (l : Lined mk) (s : Seen) (st
         still_unheld true v e = refl
         still_unheld false v e = e
 
-        by_line : (x : ContextId) → is_of_its_tabs c p mk x ≡ true → (d : Bool) → is_held (moved (goes_if d) (stage (tree_look c p mk) (tree_begin c p) x g)) ≡ (if d then false else s.holds x)
-        by_line x m true = refl
-        by_line x m false = t.stages x m
+        by_line : (x : ContextId) → (d : Bool) → is_held (moved (goes_if d) (stage (tree_look c p mk) (tree_begin c p mk) x g)) ≡ (if d then false else s.holds x)
+        by_line x true = refl
+        by_line x false = t.stages x
 
-        by_held : (x : ContextId) → is_of_its_tabs c p mk x ≡ true → (v : Bool) → s.holds x ≡ v → is_held (moved (goes_if (is_among y (line x mk))) (stage (tree_look c p mk) (tree_begin c p) x g)) ≡ (if s.under x y then false else s.holds x)
-        by_held x m true on = by_line x m (is_among y (line x mk)) ∙ ap (λ (u : Bool). if u then false else s.holds x) (sym (st.held_under x y on))
-        by_held x m false off = still_unheld (is_among y (line x mk)) (stage look begin x g) (t.stages x m ∙ off) ∙ sym (ap (λ (u : Bool). if u then false else s.holds x) (st.unheld_under x y off) ∙ off)
+        by_held : (x : ContextId) → (v : Bool) → s.holds x ≡ v → is_held (moved (goes_if (is_among y (line x mk))) (stage (tree_look c p mk) (tree_begin c p mk) x g)) ≡ (if s.under x y then false else s.holds x)
+        by_held x true on = by_line x (is_among y (line x mk)) ∙ ap (λ (u : Bool). if u then false else s.holds x) (sym (st.held_under x y on))
+        by_held x false off = still_unheld (is_among y (line x mk)) (stage look begin x g) (t.stages x ∙ off) ∙ sym (ap (λ (u : Bool). if u then false else s.holds x) (st.unheld_under x y off) ∙ off)
 
         by_unmade : (x : ContextId) → x.creator ≡ p + 1 → s.frames_made < x.serial → IsUnmade c p mk x g → IsUnmade c p mk x (Writes (Own b) ∷ g)
         by_unmade x own later u = record {
@@ -427,13 +371,13 @@ module _ (c : Config) (p : ℕ) (mk : List Making) (l : Lined mk) (s : Seen) (st
             unheld_by true v unheld e = absurd cc
             unheld_by false v unheld e = unheld e
 
-            still : Above (tree_look c p mk) x (λ w. stage (tree_look c p mk) (tree_begin c p) w g ≡ Gone) → Above (tree_look c p mk) x (λ w. stage (tree_look c p mk) (tree_begin c p) w (Writes (Own b) ∷ g) ≡ Gone)
+            still : Above (tree_look c p mk) x (λ w. stage (tree_look c p mk) (tree_begin c p mk) w g ≡ Gone) → Above (tree_look c p mk) x (λ w. stage (tree_look c p mk) (tree_begin c p mk) w (Writes (Own b) ∷ g) ≡ Gone)
             still (w, up, gone) = (w, up, gone_behind (look.does w (Own b)) (stage look begin w g) gone)
 
-            by_place : (y ≡ x) ⊎ ((a : ContextId) × (above_in mk x ≡ Some a) × (is_among y (line a mk) ≡ true)) → Above (tree_look c p mk) x (λ w. stage (tree_look c p mk) (tree_begin c p) w (Writes (Own b) ∷ g) ≡ Gone)
+            by_place : (y ≡ x) ⊎ ((a : ContextId) × (above_in mk x ≡ Some a) × (is_among y (line a mk) ≡ true)) → Above (tree_look c p mk) x (λ w. stage (tree_look c p mk) (tree_begin c p mk) w (Writes (Own b) ∷ g) ≡ Gone)
             by_place (inl same) = absurd (omega (arith, later, st.held_own x (ap s.holds (sym same) ∙ held_y) own))
             by_place (inr (a, up, more)) = (a, up, ap (λ d. moved d (stage look begin a g)) (does_y a ∙ ap goes_if more))
 
-            by_gone : (stage (tree_look c p mk) (tree_begin c p) x g ≡ Gone) ⊎ ((tree_look c p mk).does x (Own b) ≡ Goes) → Above (tree_look c p mk) x (λ w. stage (tree_look c p mk) (tree_begin c p) w (Writes (Own b) ∷ g) ≡ Gone)
+            by_gone : (stage (tree_look c p mk) (tree_begin c p mk) x g ≡ Gone) ⊎ ((tree_look c p mk).does x (Own b) ≡ Goes) → Above (tree_look c p mk) x (λ w. stage (tree_look c p mk) (tree_begin c p mk) w (Writes (Own b) ∷ g) ≡ Gone)
             by_gone (inl was) = still (u.with_above was)
             by_gone (inr goes) = by_place (in_line mk l y x (goes_when (is_among y (line x mk)) (sym (does_y x) ∙ goes)))

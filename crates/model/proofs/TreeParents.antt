@@ -1,8 +1,9 @@
 -- The trees of an honest process behind what the parent does: what is told, what is heard, and its end.
-use Rattle.std.proofs.Common.{◌≡◌, ◌⊎◌, inl, inr, ℕ, ◌+◌, ◌<◌, ◌==◌, Bool, true, false, ◌&&◌, if◌then◌else◌, Option, None, Some, List, [], ◌∷◌, ◌++◌, length, refl, ap, ap₂, sym, subst, ◌∙◌, eqb-true, eq-eqb}
-use Rattle.std.specs.Prelude.{is_some, is_none, filter}
-use Rattle.std.specs.List.{AllByRecursion}
+use Rattle.std.proofs.Common.{◌≡◌, ◌⊎◌, inl, inr, ℕ, ◌+◌, ◌<◌, ◌==◌, Bool, true, false, if◌then◌else◌, Option, None, Some, List, [], ◌∷◌, ◌++◌, length, refl, ap, ap₂, sym, subst, ◌∙◌, eqb-true, eq-eqb}
+use Rattle.std.specs.Prelude.{is_some, filter}
+use Rattle.std.specs.List.{AllByRecursion, list_any}
 use Rattle.fission_ids.specs.declared.context.ContextId.{ContextId}
+use Rattle.fission_ids.specs.declared.group.GroupId.{GroupId}
 use Rattle.wire_msgs.specs.declared.answer.Answer.{Answer}
 use Rattle.wire_msgs.specs.declared.answer.Answer.TheVariants as answers
 use Rattle.protocol.specs.Commits.{applied}
@@ -15,11 +16,11 @@ use Rattle.protocol.specs.Bundle.{bundle_for}
 use Rattle.wire_msgs.specs.declared.part.DownPart.TheVariants as downs
 use Rattle.protocol.specs.Hear.{frame_known}
 use Rattle.protocol.specs.Order.{in_order, parts_with_all}
-use Rattle.protocol.specs.Questions.{Facts, is_told}
+use Rattle.protocol.specs.ParentActs.{register_of}
+use Rattle.protocol.specs.Questions.{Facts, option_any, is_subscribed, is_told}
 use Rattle.protocol.specs.Sayings.{Saying}
 use Rattle.protocol.specs.Sayings.Saying.{Opened, Made, BornDead, Removed, Wrote, Acked, Subscribed, Counted, Sent, Ended}
 use Rattle.protocol.specs.Seen.{Seen}
-use Rattle.protocol.specs.Start.{is_held_at_start}
 use Rattle.traces.specs.Event.Event.{Sends, Accepts, Reverts, Ignores, Changes, Ends}
 use Rattle.traces.specs.Links.{is_ended, writes_waiting}
 use Rattle.traces.specs.Rules.{IsFirst, Flow, Flows}
@@ -28,21 +29,23 @@ use Rattle.trees.specs.Look.Handing.{Same}
 use Rattle.trees.specs.Rules.{Fits, Fit, Told, Brought, Handed, Tells}
 use Rattle.trees.specs.Children.{attached, is_alive, owned}
 use Rattle.trees.specs.Words.{life}
+use Rattle.trees.specs.Words as trees
 use Rattle.wire_msgs.specs.declared.cause.EndCause.TheVariants.{Killed}
-use Rattle.model.specs.Lines.{Making, makings_said, line, root}
+use Rattle.model.specs.Lines.{Making, makings_said, line, group_in}
 use Rattle.model.specs.Moments.{Moment, ProcessEvent, said, did_by, events_of, facts_now, seen_now, told, heard, is_done}
 use Rattle.model.specs.Moments.Written.{Own, Said}
 use Rattle.model.specs.Parent.{asked, ended}
 use Rattle.model.specs.Process.{own_asked}
-use Rattle.model.specs.Trees.{says_do, says_make, says_hand, parts_tell, parts_bring, parts_handed, handed_unless, is_of_its_tabs, tree_look, tree_begin}
-use Rattle.model.proofs.Cases.{by_if, both_true, true_false, none_some}
-use Rattle.model.proofs.TreeTold.{told_alive}
-use Rattle.model.proofs.Entry.{FitsOver, IsOfOthers, PostOf, IsCommitOf, Posted, IsTold, IsKilled, Hearing, Says, IsSending, IsAcking}
+use Rattle.model.specs.View.{singles}
+use Rattle.model.specs.Trees.{registers_group, parts_tell, parts_bring, parts_handed, handed_unless, tree_look, tree_begin}
+use Rattle.model.proofs.Cases.{true_false, none_some}
+use Rattle.model.proofs.Entry.{FitsOver, IsOfOthers, PostOf, IsCommitOf, Posted, tab_known, IsTold, IsKilled, Hearing, Says, IsSending, IsAcking, others_posted}
 use Rattle.model.proofs.Entry.Posted.{NonePosted, OnePosted}
 use Rattle.model.proofs.Entry.Hearing.{AsMade, AsLate, AsDrop, AsOldDrop, AsAcks, AsCommit, AsOldCommit, AsOver}
 use Rattle.model.proofs.Fitting.{SayingFits, AllFit, FactsTies}
 use Rattle.model.proofs.Lining.{Lined, IsToldBy}
-use Rattle.model.proofs.Subscribers.{told_is}
+use Rattle.model.proofs.Children.{ChildrenLive}
+use Rattle.model.proofs.Subscribing.{ended_unsubscribed}
 use Rattle.model.proofs.Telling.{Saids, saids_before, facts_behind}
 use Rattle.model.proofs.TreeEvents.{until_end, all_events}
 use Rattle.model.proofs.TreeFacts.{TreeFacts}
@@ -75,10 +78,6 @@ ended_still p (Ended q cause ∷ ys) old others = by_test (p == q) refl (ended_s
     by_test false is rest = rest
 ended_still p (_ ∷ ys) old others = ended_still p ys old others.1
 
-pub all_others : (c : Config) (p : ℕ) (old ys : List Saying) (ds : List DownPart) → Posted c p old ys ds → AllByRecursion (IsOfOthers p) ys
-all_others c p old _ _ NonePosted = tt
-all_others c p old _ _ (OnePosted y ys before more posted other post) = (other, all_others c p old ys before posted)
-
 -- what is said of a bundle that is done ends nobody
 pub sendings : (p : ℕ) (sent core old : List Saying) → AllByRecursion IsSending sent → ended p ((sent ++ core) ++ old) ≡ ended p (core ++ old)
 unfolding ended
@@ -100,25 +99,30 @@ module _ (c : Config) (p : ℕ) (mk : List Making) (l : Lined mk) (low : p < 16)
   all_fit [] fits = fit
   all_fit (y ∷ ys) fits = (fits.0, all_fit ys fits.1)
 
-  pub untold : (ys : List Saying) → Saids c p mk l old ft ys → AllByRecursion (IsOfOthers p) ys → (a : ContextId) → (asked c.tabs (ys ++ old)).contexts.known a ≡ true → is_told (asked c.tabs (ys ++ old)) p a ≡ false
-  untold ys s others a known =
-      told_is c.tabs mk (ys ++ old) p a low (all_fit ys s.fits) (facts_behind c p mk l old ft ys s) known
-      ∙ ap (λ (o : Option EndCause). is_none o && is_held_at_start c.tabs p (root a mk)) (ended_still p ys old others)
-      ∙ by_end (ended p old) over
-    where
-      by_end : (o : Option EndCause) → is_some o ≡ true → (is_none o && is_held_at_start c.tabs p (root a mk)) ≡ false
-      by_end (Some cause) e = refl
-      by_end None e = absurd cc
+  unsubscribed : (ys : List Saying) → Saids c mk l old ft ys → AllByRecursion (IsOfOthers p) ys → (g : GroupId) → is_subscribed (asked c.tabs (ys ++ old)) p g ≡ false
+  unsubscribed ys s others g = ended_unsubscribed c.tabs p g (ys ++ old) low (all_fit ys s.fits) (ap is_some (ended_still p ys old others) ∙ over)
 
-  post_none : (ys : List Saying) → Saids c p mk l old ft ys → AllByRecursion (IsOfOthers p) ys → (y : Saying) → SayingFits (asked c.tabs (ys ++ old)) y → (ds : List DownPart) → PostOf (asked c.tabs (ys ++ old)) p y ds → ds ≡ []
-  post_none ys s others (Opened z g is_new q) fits ds post = absurd fits
-  post_none ys s others (Subscribed q g) fits ds post = absurd fits
-  post_none ys s others (Made q z a) fits ds post = post ∙ ap (λ (b : Bool). if b then downs.Create (frame_known (asked c.tabs (ys ++ old)) z a) ∷ [] else []) (untold ys s others a ((facts_behind c p mk l old ft ys s).live_known a fits.live))
-  post_none ys s others (Removed w but) fits ds post = post ∙ ap (λ (b : Bool). if b then downs.Discard w ∷ [] else []) (untold ys s others w ((facts_behind c p mk l old ft ys s).live_known w fits))
+  pub untold : (ys : List Saying) → Saids c mk l old ft ys → AllByRecursion (IsOfOthers p) ys → (a : ContextId) → (asked c.tabs (ys ++ old)).contexts.known a ≡ true → is_told (asked c.tabs (ys ++ old)) p a ≡ false
+  untold ys s others a known = by_group ((asked c.tabs (ys ++ old)).contexts.group a)
+    where
+      by_group : (o : Option GroupId) → option_any (is_subscribed (asked c.tabs (ys ++ old)) p) o ≡ false
+      by_group None = refl
+      by_group (Some g) = unsubscribed ys s others g
+
+  post_none : (ys : List Saying) → Saids c mk l old ft ys → AllByRecursion (IsOfOthers p) ys → (y : Saying) → SayingFits (asked c.tabs (ys ++ old)) y → (ds : List DownPart) → PostOf (asked c.tabs (ys ++ old)) p y ds → ds ≡ []
+  post_none ys s others (Opened z g is_new q) fits ds post = post ∙ ap (λ (b : Bool). if b then downs.Create (tab_known p z g q) ∷ [] else []) (unsubscribed ys s others g)
+  post_none ys s others (Subscribed q g) fits ds post = post ∙ ap (λ (b : Bool). if b then register_of (asked c.tabs (ys ++ old)) p g ∷ [] else []) (other (q == p) refl)
+    where
+      other : (b : Bool) → (q == p) ≡ b → b ≡ false
+      other false e = refl
+      other true e = true_false (is_some (ended p (ys ++ old))) (ap is_some (ended_still p ys old others) ∙ over)
+          (ap (λ k. is_some (ended k (ys ++ old))) (sym (eqb-true q p e)) ∙ ap is_some fits.runs)
+  post_none ys s others (Made q z a) fits ds post = post ∙ ap (λ (b : Bool). if b then downs.Create (frame_known (asked c.tabs (ys ++ old)) z a) ∷ [] else []) (untold ys s others a ((facts_behind c mk l old ft ys s).live_known a fits.live))
+  post_none ys s others (Removed w but) fits ds post = post ∙ ap (λ (b : Bool). if b then downs.Discard w ∷ [] else []) (untold ys s others w ((facts_behind c mk l old ft ys s).live_known w fits))
   post_none ys s others (Wrote z t) fits ds post = by_post post
     where
       by_post : ((is_told (asked c.tabs (ys ++ old)) p z ≡ true) × IsCommitOf z t ds) ⊎ ((is_told (asked c.tabs (ys ++ old)) p z ≡ false) × (ds ≡ [])) → ds ≡ []
-      by_post (inl is) = true_false (is_told (asked c.tabs (ys ++ old)) p z) is.0 (untold ys s others z ((facts_behind c p mk l old ft ys s).live_known z fits))
+      by_post (inl is) = true_false (is_told (asked c.tabs (ys ++ old)) p z) is.0 (untold ys s others z ((facts_behind c mk l old ft ys s).live_known z fits))
       by_post (inr none) = none.1
   post_none ys s others (BornDead q z a) fits ds post = post
   post_none ys s others (Acked q z) fits ds post = post
@@ -126,11 +130,11 @@ module _ (c : Config) (p : ℕ) (mk : List Making) (l : Lined mk) (low : p < 16)
   post_none ys s others (Sent q) fits ds post = post
   post_none ys s others (Ended q cause) fits ds post = post
 
-  pub posts_none : (ys : List Saying) (ds : List DownPart) → Saids c p mk l old ft ys → Posted c p old ys ds → ds ≡ []
+  pub posts_none : (ys : List Saying) (ds : List DownPart) → Saids c mk l old ft ys → Posted c p old ys ds → ds ≡ []
   posts_none _ _ s NonePosted = refl
   posts_none _ _ s (OnePosted y ys before more posted other post) =
-      ap₂ (λ us vs. us ++ vs) (posts_none ys before (saids_before c p mk l old ft y ys s) posted)
-      (post_none ys (saids_before c p mk l old ft y ys s) (all_others c p old ys before posted) y s.fits.0 more post)
+      ap₂ (λ us vs. us ++ vs) (posts_none ys before (saids_before c mk l old ft y ys s) posted)
+      (post_none ys (saids_before c mk l old ft y ys s) (others_posted c p old ys before posted) y s.fits.0 more post)
 
 nothing_ordered : in_order [] ≡ []
 unfolding parts_with_all
@@ -155,7 +159,7 @@ still_runs (Ignores k w) h is = refl
 still_runs (Changes k u) h is = refl
 still_runs (_) h is = absurd is
 
-more_seen : (c : Config) (p : ℕ) (mk : List Making) (s : Seen) (e : ProcessEvent) (g : List ProcessEvent) → IsParents e → Fits (tree_look c p mk) (tree_begin c p) (e ∷ g) → TreeSeen c p mk s g → TreeSeen c p mk s (e ∷ g)
+more_seen : (c : Config) (p : ℕ) (mk : List Making) (s : Seen) (e : ProcessEvent) (g : List ProcessEvent) → IsParents e → Fits (tree_look c p mk) (tree_begin c p mk) (e ∷ g) → TreeSeen c p mk s g → TreeSeen c p mk s (e ∷ g)
 more_seen c p mk s (Sends k u d) g is fits t = record { fits = fits; stages = t.stages; owners = t.owners; unmade = λ x own later. let u = t.unmade x own later in record { unheld = u.unheld; with_above = u.with_above } }
 more_seen c p mk s (Accepts k w) g is fits t = record { fits = fits; stages = t.stages; owners = t.owners; unmade = λ x own later. let u = t.unmade x own later in record { unheld = u.unheld; with_above = u.with_above } }
 more_seen c p mk s (Reverts k w d) g is fits t = record { fits = fits; stages = t.stages; owners = t.owners; unmade = λ x own later. let u = t.unmade x own later in record { unheld = u.unheld; with_above = u.with_above } }
@@ -242,17 +246,17 @@ module _ (c : Config) (p : ℕ) (mk : List Making) (l : Lined mk) (low : p < 16)
     flow_told k ys None runs = tt
     flow_told k ys (Some d) runs = runs refl
 
-    pub behind_told : (posts : List DownPart) → IsTold c p ms m posts → Behind c p mk ms m
-    behind_told posts is =
+    pub behind_told : (is_ended (events_of p ms) ≡ false → ChildrenLive c p mk (facts_now c ms) (events_of p ms)) → (posts : List DownPart) → IsTold c p ms m posts → Behind c p mk ms m
+    behind_told children posts is =
         behind_one (told (length ms + 1) m.says (bundle_for (facts_now c (m ∷ ms)) p (in_order posts)))
         (record {
           parents = told_parents (length ms + 1) m.says (bundle_for (facts_now c (m ∷ ms)) p (in_order posts));
           did = is.did;
           events = is.events;
           flow = flow_told (length ms + 1) m.says (bundle_for (facts_now c (m ∷ ms)) p (in_order posts)) (λ some. runs_if (is_ended h) refl some);
-          ends = ended_still p m.says (said ms) (all_others c p (said ms) m.says posts is.posted);
+          ends = ended_still p m.says (said ms) (others_posted c p (said ms) m.says posts is.posted);
         })
-        (λ runs tf. told_keeps c p ms m mk l low ft fit told_by (alive_of runs) runs tf posts is)
+        (λ runs tf. told_keeps c p ms m mk l low ft fit told_by runs flows tf (children runs) posts is)
       where
         runs_if : (b : Bool) → is_ended (events_of p ms) ≡ b → is_some (bundle_for (facts_now c (m ∷ ms)) p (in_order posts)) ≡ true → is_ended (events_of p ms) ≡ false
         runs_if false runs some = runs
@@ -265,7 +269,7 @@ module _ (c : Config) (p : ℕ) (mk : List Making) (l : Lined mk) (low : p < 16)
     abbrev end_said : List Saying
     end_said = Sent p ∷ Ended p Killed ∷ []
 
-    kill_fit : (k : ℕ) (d : DownBundle) → d.parts ≡ downs.Kill ∷ [] → is_ended (events_of p ms) ≡ false → (x : ContextId) → Tells (tree_look c p mk) (tree_begin c p) (Sends k (Said end_said) d) (Said end_said) d x (events_of p ms)
+    kill_fit : (k : ℕ) (d : DownBundle) → d.parts ≡ downs.Kill ∷ [] → is_ended (events_of p ms) ≡ false → (x : ContextId) → Tells (tree_look c p mk) (tree_begin c p mk) (Sends k (Said end_said) d) (Said end_said) d x (events_of p ms)
     kill_fit k d kill runs x = record {
       done = record {
         done = record {
@@ -273,21 +277,30 @@ module _ (c : Config) (p : ℕ) (mk : List Making) (l : Lined mk) (low : p < 16)
           with_above = λ e own new. goes (sym does ∙ e);
           below_live = λ e y up. stays (sym does ∙ e);
           by_owner = λ e y up. stays (sym does ∙ e);
-          cleared = λ y up. inl (by_if (λ a. a ≡ Same) (is_of_its_tabs c p mk y) (says_hand p y end_said) Same (λ m. refl) (λ isnt. refl));
+          cleared = λ y up. inl refl;
         };
         by_others = λ e. stays (sym does ∙ e);
         owned = λ e same. stays (sym does ∙ e);
         creates = λ e. stays (sym does ∙ e);
-        creates_others = λ e. true_false false (both_true (is_of_its_tabs c p mk x) false e).1 refl;
-        children = subst (AllByRecursion _) (sym (by_if (λ xs. xs ≡ []) (is_of_its_tabs c p mk x) (says_make x end_said) [] (λ m. refl) (λ isnt. refl))) tt;
+        creates_others = λ e. absurd cc;
+        children = tt;
       };
-      told = subst (λ b. Told b false ((tree_look c p mk).does x (Said end_said)) ((tree_look c p mk).tells x d) (life (tree_look c p mk) (tree_begin c p) x h)) (sym (told_alive c p mk h runs)) (tells ∙ sym does);
-      brought = subst (λ b. Brought b false ((tree_look c p mk).brings x d) ((tree_look c p mk).makes x (Said end_said)) (filter (is_alive (tree_look c p mk) (tree_begin c p) (Sends k (Said end_said) d ∷ h)) (attached (tree_look c p mk) x h ++ (tree_look c p mk).makes x (Said end_said)))) (sym (told_alive c p mk h runs)) (brings ∙ sym makes);
+      told = subst (λ r. Told (is_told_by x) r Stays ((tree_look c p mk).tells x d) (life (tree_look c p mk) (tree_begin c p mk) x h)) (sym (registers (group_in c.tabs mk x)))
+          (nothing_told (is_told_by x));
+      brought = subst (λ r. Brought (is_told_by x) r ((tree_look c p mk).brings x d) []
+          (filter (is_alive (tree_look c p mk) (tree_begin c p mk) (Sends k (Said end_said) d ∷ h)) (attached (tree_look c p mk) x h ++ [])))
+          (sym (registers (group_in c.tabs mk x))) (nothing_brought (is_told_by x)
+          (filter (is_alive (tree_look c p mk) (tree_begin c p mk) (Sends k (Said end_said) d ∷ h)) (attached (tree_look c p mk) x h ++ [])));
       others = subst (AllByRecursion _) (sym brings) tt;
-      handed = λ now. subst (λ b. Handed b false ((tree_look c p mk).hands x (Said end_said)) ((tree_look c p mk).handed x d) (owned (tree_look c p mk) (tree_begin c p) x (Sends k (Said end_said) d ∷ h))) (sym (told_alive c p mk h runs)) (handed ∙ sym hands);
+      handed = λ now. subst (λ r. Handed (is_told_by x) r Same ((tree_look c p mk).handed x d) (owned (tree_look c p mk) (tree_begin c p mk) x (Sends k (Said end_said) d ∷ h)))
+          (sym (registers (group_in c.tabs mk x)))
+          (nothing_handed (is_told_by x) (owned (tree_look c p mk) (tree_begin c p mk) x (Sends k (Said end_said) d ∷ h)));
       only_live = inl handed;
     }
       where
+        is_told_by : ContextId → Bool
+        is_told_by x = trees.is_told (tree_look c p mk) (tree_begin c p mk) x h
+
         stays : {A : Type 0} → Stays ≡ Comes → A
         stays e = absurd cc
 
@@ -295,22 +308,33 @@ module _ (c : Config) (p : ℕ) (mk : List Making) (l : Lined mk) (low : p < 16)
         goes e = absurd cc
 
         does : (tree_look c p mk).does x (Said end_said) ≡ Stays
-        does = by_if (λ a. a ≡ Stays) (is_of_its_tabs c p mk x) (says_do x (line x mk) end_said) Stays (λ m. refl) (λ isnt. refl)
+        does = refl
 
-        hands : (tree_look c p mk).hands x (Said end_said) ≡ Same
-        hands = by_if (λ a. a ≡ Same) (is_of_its_tabs c p mk x) (says_hand p x end_said) Same (λ m. refl) (λ isnt. refl)
-
-        makes : (tree_look c p mk).makes x (Said end_said) ≡ []
-        makes = by_if (λ xs. xs ≡ []) (is_of_its_tabs c p mk x) (says_make x end_said) [] (λ m. refl) (λ isnt. refl)
+        -- a kill registers nothing
+        registers : (o : Option GroupId) → option_any (λ g. list_any (registers_group g) d.parts) o ≡ false
+        registers None = refl
+        registers (Some g) = ap (list_any (registers_group g)) kill
 
         tells : (tree_look c p mk).tells x d ≡ Stays
-        tells = by_if (λ a. a ≡ Stays) (is_of_its_tabs c p mk x) (parts_tell x (line x mk) d.parts) Stays (λ m. ap (parts_tell x (line x mk)) kill) (λ isnt. refl)
+        tells = ap (λ ps. parts_tell x (line x mk) (singles ps)) kill
 
         brings : (tree_look c p mk).brings x d ≡ []
-        brings = by_if (λ xs. xs ≡ []) (is_of_its_tabs c p mk x) (parts_bring x d.parts) [] (λ m. ap (parts_bring x) kill) (λ isnt. refl)
+        brings = ap (λ ps. parts_bring x (singles ps)) kill
 
         handed : (tree_look c p mk).handed x d ≡ Same
-        handed = by_if (λ a. a ≡ Same) (is_of_its_tabs c p mk x) (handed_unless (parts_tell x (line x mk) d.parts) (parts_handed x d.parts)) Same (λ m. ap (λ ps. handed_unless (parts_tell x (line x mk) ps) (parts_handed x ps)) kill) (λ isnt. refl)
+        handed = ap (λ ps. handed_unless (parts_tell x (line x mk) (singles ps)) (parts_handed x (singles ps))) kill
+
+        nothing_told : (b : Bool) → Told b false Stays ((tree_look c p mk).tells x d) (life (tree_look c p mk) (tree_begin c p mk) x (events_of p ms))
+        nothing_told true = tells
+        nothing_told false = tells
+
+        nothing_brought : (b : Bool) (all : List ContextId) → Brought b false ((tree_look c p mk).brings x d) [] all
+        nothing_brought true all = brings
+        nothing_brought false all = brings
+
+        nothing_handed : (b v : Bool) → Handed b false Same ((tree_look c p mk).handed x d) v
+        nothing_handed true v = handed
+        nothing_handed false v = tt
 
     pub behind_killed : (d : DownBundle) → IsKilled c p ms m d → Behind c p mk ms m
     unfolding ended
@@ -330,8 +354,8 @@ module _ (c : Config) (p : ℕ) (mk : List Making) (l : Lined mk) (low : p < 16)
         seen_same : TreeSeen c p mk (seen_now c p (m ∷ ms)) (until_end (events_of p ms))
         seen_same = subst (λ u. TreeSeen c p mk u (until_end h)) (ap (λ ds. own_asked c.tabs p (ds ++ did_by p ms)) (sym is.did)) t.seen
 
-        fits : Fits (tree_look c p mk) (tree_begin c p) (Sends (length ms + 1) (Said m.says) d ∷ events_of p ms)
-        fits = ((λ r. subst (λ ys. Fit (tree_look c p mk) (tree_begin c p) (Sends (length ms + 1) (Said ys) d) h) (sym is.says) (kill_fit (length ms + 1) d is.kill runs)), (t.facts runs).fits)
+        fits : Fits (tree_look c p mk) (tree_begin c p mk) (Sends (length ms + 1) (Said m.says) d ∷ events_of p ms)
+        fits = ((λ r. subst (λ ys. Fit (tree_look c p mk) (tree_begin c p mk) (Sends (length ms + 1) (Said ys) d) h) (sym is.says) (kill_fit (length ms + 1) d is.kill runs)), (t.facts runs).fits)
 
         with_sends : TreeSeen c p mk (seen_now c p (m ∷ ms)) (Sends (length ms + 1) (Said m.says) d ∷ until_end (events_of p ms))
         with_sends = subst (λ g. TreeSeen c p mk (seen_now c p (m ∷ ms)) (Sends (length ms + 1) (Said m.says) d ∷ g)) (sym (all_events h runs))

@@ -1,6 +1,6 @@
--- What a process takes keeps what it answers of its trees: what is told of comes where the context above is held, and
+-- What a process takes keeps what it answers of the trees: what is told of comes where the context above is held, and
 -- what goes takes all below it.
-use Rattle.std.proofs.Common.{◌≡◌, ◌⊎◌, inl, inr, ℕ, ◌+◌, ◌<◌, ◌≤◌, ◌==◌, Bool, true, false, not, ◌&&◌, if◌then◌else◌, Some, List, [], ◌∷◌, refl, ap, ap₂, sym, subst, ◌∙◌, arith, eq-eqb}
+use Rattle.std.proofs.Common.{◌≡◌, ◌⊎◌, inl, inr, ℕ, ◌+◌, ◌<◌, ◌≤◌, ◌==◌, Bool, true, false, not, ◌&&◌, if◌then◌else◌, Option, None, Some, List, [], ◌∷◌, refl, ap, ap₂, sym, subst, ◌∙◌, arith, eq-eqb}
 use Rattle.std.specs.List.{AllByRecursion}
 use Rattle.fission_ids.specs.declared.context.ContextId.{ContextId}
 use Rattle.fission_ids.specs.Ids.{same_context}
@@ -17,7 +17,6 @@ use Rattle.protocol.specs.Questions.{option_any}
 use Rattle.protocol.specs.Seen.{Seen}
 use Rattle.protocol.specs.Seen.Doing.{Came, Went, Given, Stopped}
 use Rattle.protocol.specs.SeenAfter.{seen_after, with_context}
-use Rattle.protocol.specs.Start.{is_held_at_start}
 use Rattle.protocol.specs.Take.{take_rules, may_come, option_all, taken_notes}
 use Rattle.protocol.specs.Take as take
 use Rattle.traces.specs.Event.{Bundle}
@@ -30,21 +29,24 @@ use Rattle.trees.specs.Children.{owns}
 use Rattle.trees.specs.Look.{Effect, Handing, moved, owned_behind, Look, Begin}
 use Rattle.trees.specs.Look.Effect.{Stays, Comes, Goes}
 use Rattle.trees.specs.Look.Handing.{Same, Given as HandGiven, Taken}
-use Rattle.trees.specs.Rules.{Above, told_owner}
+use Rattle.trees.specs.Rules.{Above, told_owner, Keeps}
 use Rattle.trees.specs.Words.{stage, is_held}
 use Rattle.trees.proofs.Effects.{gone_behind, gone_before}
-use Rattle.trees.proofs.Taking.{comings_below}
+use Rattle.trees.proofs.Taking.{comings_below, first_new}
 use Rattle.field_table.specs.Table.{value_in}
 use Rattle.model.specs.Lines.{Making, line, above_in, is_among}
 use Rattle.model.specs.Moments.{Written, ProcessEvent}
-use Rattle.model.specs.Trees.{comes_if, goes_if, both, later_hand, hand_if, parts_tell, parts_handed, handed_unless, is_of_its_tabs, tree_look, tree_begin}
+use Rattle.model.specs.View.{singles}
+use Rattle.model.specs.Trees.{comes_if, goes_if, both, later_hand, hand_if, parts_tell, parts_handed, handed_unless, tree_look, tree_begin}
 use Rattle.model.proofs.Arranging.{come_all, ComeFirst}
 use Rattle.model.proofs.Cases.{true_false, same_context_is, same_itself, same_swapped}
-use Rattle.model.proofs.DownFits.{ComingFits, IsApart, ComeApart, PartFits, DownFits}
+use Rattle.model.proofs.DownFits.{ComingFits, IsApart, ComeApart, DownFits}
 use Rattle.model.proofs.Holding.{SeenTies, seen_still}
 use Rattle.model.proofs.Lining.{Lined, longer}
 use Rattle.model.proofs.Living.{both_moved, both_goes, both_swapped, goes_later, goes_when, in_line}
 use Rattle.model.proofs.Owning.{later_owned}
+use Rattle.model.proofs.SingleFits.{SingleFits, singles_fit}
+use Rattle.model.proofs.Singles.{taken_single}
 use Rattle.model.proofs.TreeLawful.{lawful, downs_below}
 use Rattle.model.proofs.TreeOwn.{IsUnmade, TreeSeen}
 
@@ -111,19 +113,10 @@ unbrought z ln (downs.Discard w ∷ post) none e = by_test (is_among w ln) e (un
     by_test false e rest = rest e
 unbrought z ln (_ ∷ post) none e = unbrought z ln post none e
 
-held_only : (s : Stage) → is_held s ≡ true → s ≡ Held
-held_only Coming e = absurd cc
-held_only Held e = refl
-held_only Gone e = absurd cc
-
 not_held : (s : Stage) → (s ≡ Held → ⊥) → is_held s ≡ false
 not_held Coming e = refl
 not_held Held e = absurd (e refl)
 not_held Gone e = refl
-
-both_of : (a b : Bool) → a ≡ true → b ≡ true → (a && b) ≡ true
-both_of true b is e = e
-both_of false b is e = absurd cc
 
 -- what an effect and a later one do together
 together : (a b : Effect) (s : Stage) → moved b (moved a s) ≡ moved (both a b) s
@@ -141,76 +134,86 @@ module _ (c : Config) (p : ℕ) (mk : List Making) (l : Lined mk) where
   -- what the process answers of what these parts leave there is what the stages and owners say
   pub record TakeSo (s : Seen) (L : ContextId → Stage) (O : ContextId → Bool) (post : List DownPart) : Type 0 where
     pub ties : SeenTies c.tabs p mk s
-    pub stages : (x : ContextId) → is_of_its_tabs c p mk x ≡ true → (parts_tell x (line x mk) post ≡ Goes → ⊥) → is_held (L x) ≡ s.holds x
-    pub owners : (x : ContextId) → is_of_its_tabs c p mk x ≡ true → (parts_tell x (line x mk) post ≡ Goes → ⊥) → s.holds x ≡ true → s.owns x ≡ O x
-    pub coming : (x y : ContextId) → is_of_its_tabs c p mk x ≡ true → (x.creator == p + 1) ≡ false → above_in mk x ≡ Some y → parts_tell x (line x mk) post ≡ Comes → MayCome L post x y
-
-  mine_above : (x a : ContextId) → above_in mk x ≡ Some a → is_of_its_tabs c p mk x ≡ is_of_its_tabs c p mk a
-  mine_above x a up = ap (is_held_at_start c.tabs p) (l.root_step x a up)
+    pub stages : (x : ContextId) → (parts_tell x (line x mk) post ≡ Goes → ⊥) → is_held (L x) ≡ s.holds x
+    pub owners : (x : ContextId) → (parts_tell x (line x mk) post ≡ Goes → ⊥) → s.holds x ≡ true → s.owns x ≡ O x
+    pub coming : (x y : ContextId) → (x.creator == p + 1) ≡ false → above_in mk x ≡ Some y → parts_tell x (line x mk) post ≡ Comes → MayCome L post x y
+    pub coming_top : (x : ContextId) → (x.creator == p + 1) ≡ false → above_in mk x ≡ None → parts_tell x (line x mk) post ≡ Comes → L x ≡ Coming
 
   -- ---- a context comes
 
   module _ (s : Seen) (L : ContextId → Stage) (O : ContextId → Bool) (k : Known) (post : List DownPart) (fits : ComingFits c p mk k) (apart : AllByRecursion (IsApart k) (come_all post)) (t : TakeSo s L O (downs.Create k ∷ post)) where
-    abbrev y : ContextId
-    y = fits.known.below
-
     others_of : (ks : List Known) → AllByRecursion (IsApart k) ks → AllByRecursion (λ j. same_context j.context k.context ≡ false) ks
     others_of [] all = tt
     others_of (j ∷ ks) all = (all.0.other, others_of ks all.1)
 
-    above_of : (ks : List Known) → AllByRecursion (IsApart k) ks → AllByRecursion (λ j. same_context j.context fits.known.below ≡ false) ks
-    above_of [] all = tt
-    above_of (j ∷ ks) all = (sym (ap (option_any (same_context j.context)) fits.known.frame) ∙ all.0.not_above, above_of ks all.1)
+    tell_k : (parts_tell k.context (line k.context mk) post ≡ Goes → ⊥) → parts_tell k.context (line k.context mk) (downs.Create k ∷ post) ≡ Comes
+    tell_k stays = ap (λ b. both (comes_if b) (parts_tell k.context (line k.context mk) post)) (same_itself k.context) ∙ comes_unless (parts_tell k.context (line k.context mk) post) stays
 
-    mine_y : is_of_its_tabs c p mk fits.known.below ≡ true
-    mine_y = sym (mine_above k.context fits.known.below fits.known.made) ∙ fits.mine
+    unheld_k : (parts_tell k.context (line k.context mk) post ≡ Goes → ⊥) → (L k.context ≡ Held → ⊥) → s.holds k.context ≡ false
+    unheld_k stays unheld = sym (t.stages k.context (λ goes. let two : Comes ≡ Goes = sym (tell_k stays) ∙ goes in absurd cc)) ∙ not_held (L k.context) unheld
 
-    -- it isn't the one above itself
-    y_other : same_context fits.known.below k.context ≡ false
-    y_other = longer k.context fits.known.below mk (l.line_step k.context fits.known.below fits.known.made)
-
-    tell_y : parts_tell fits.known.below (line fits.known.below mk) (downs.Create k ∷ post) ≡ parts_tell fits.known.below (line fits.known.below mk) post
-    tell_y = ap (λ b. both (comes_if b) (parts_tell y (line y mk) post)) y_other
+    -- it may come if what is above it is held
+    may_is : (o : Option ContextId) (v : Bool) → s.holds k.context ≡ false → k.parent ≡ o → option_all s.holds o ≡ v → may_come p s k ≡ v
+    may_is o v unheld up e = ap₂ (λ a b. not a && not b && option_all s.holds k.parent) unheld fits.others ∙ ap (option_all s.holds) up ∙ e
 
     -- where it comes to be held, and where it doesn't
     data Arrival : Type 0 where
       Arrives : L k.context ≡ Coming → may_come p s k ≡ true → Arrival
       IsLost : L k.context ≡ Gone → may_come p s k ≡ false → s.holds k.context ≡ false → Arrival
 
-    arrival : (parts_tell k.context (line k.context mk) post ≡ Goes → ⊥) → Arrival
-    arrival stays = by_stage (L k.context) refl
+    -- with nothing above it, it comes
+    arrival_top : (parts_tell k.context (line k.context mk) post ≡ Goes → ⊥) → above_in mk k.context ≡ None → Arrival
+    arrival_top stays top =
+        let new : L k.context ≡ Coming = t.coming_top k.context fits.others top (tell_k stays) in
+        Arrives new (may_is None true (unheld_k stays (λ held. let two : Coming ≡ Held = sym new ∙ held in absurd cc)) (fits.known.above ∙ top) refl)
+
+    -- below another it comes unless it is gone
+    arrival_below : (parts_tell k.context (line k.context mk) post ≡ Goes → ⊥) → (y : ContextId) → above_in mk k.context ≡ Some y → Arrival
+    arrival_below stays y up = by_stage (L k.context) refl
       where
-        tell_k : parts_tell k.context (line k.context mk) (downs.Create k ∷ post) ≡ Comes
-        tell_k = ap (λ b. both (comes_if b) (parts_tell k.context (line k.context mk) post)) (same_itself k.context) ∙ comes_unless (parts_tell k.context (line k.context mk) post) stays
+        parent_is : k.parent ≡ Some y
+        parent_is = fits.known.above ∙ up
 
-        come : MayCome L (downs.Create k ∷ post) k.context fits.known.below
-        come = t.coming k.context y fits.mine fits.others fits.known.made tell_k
+        above_of : (ks : List Known) → AllByRecursion (IsApart k) ks → AllByRecursion (λ j. same_context j.context y ≡ false) ks
+        above_of [] all = tt
+        above_of (j ∷ ks) all = (sym (ap (option_any (same_context j.context)) parent_is) ∙ all.0.not_above, above_of ks all.1)
 
-        unheld : s.holds k.context ≡ false
-        unheld = sym (t.stages k.context fits.mine (λ goes. let two : Comes ≡ Goes = sym tell_k ∙ goes in absurd cc)) ∙ not_held (L k.context) come.unheld
+        -- it isn't the one above itself
+        y_other : same_context y k.context ≡ false
+        y_other = longer k.context y mk (l.line_step k.context y up)
+
+        tell_y : parts_tell y (line y mk) (downs.Create k ∷ post) ≡ parts_tell y (line y mk) post
+        tell_y = ap (λ b. both (comes_if b) (parts_tell y (line y mk) post)) y_other
+
+        come : MayCome L (downs.Create k ∷ post) k.context y
+        come = t.coming k.context y fits.others up (tell_k stays)
 
         -- what is above neither comes nor goes by what is left
-        y_stays : parts_tell fits.known.below (line fits.known.below mk) post ≡ Stays
+        y_stays : parts_tell y (line y mk) post ≡ Stays
         y_stays = by_effect (parts_tell y (line y mk) post) refl
           where
-            by_effect : (e : Effect) → parts_tell fits.known.below (line fits.known.below mk) post ≡ e → parts_tell fits.known.below (line fits.known.below mk) post ≡ Stays
+            by_effect : (e : Effect) → parts_tell y (line y mk) post ≡ e → parts_tell y (line y mk) post ≡ Stays
             by_effect Stays is = is
             by_effect Comes is = absurd (unbrought y (line y mk) post (above_of (come_all post) apart) is)
-            by_effect Goes is = absurd (stays (downs_below c p mk l k.context y post fits.known.made is))
+            by_effect Goes is = absurd (stays (downs_below c p mk l k.context y post up is))
 
-        y_moved : moved (parts_tell fits.known.below (line fits.known.below mk) (downs.Create k ∷ post)) (L fits.known.below) ≡ L fits.known.below
+        y_moved : moved (parts_tell y (line y mk) (downs.Create k ∷ post)) (L y) ≡ L y
         y_moved = ap (λ e. moved e (L y)) (tell_y ∙ y_stays)
 
-        y_held : is_held (L fits.known.below) ≡ s.holds fits.known.below
-        y_held = t.stages y mine_y (λ goes. let two : Stays ≡ Goes = sym (tell_y ∙ y_stays) ∙ goes in absurd cc)
-
-        may_is : (v : Bool) → s.holds fits.known.below ≡ v → may_come p s k ≡ v
-        may_is v e = ap₂ (λ a b. not a && not b && option_all s.holds k.parent) unheld fits.others ∙ ap (option_all s.holds) fits.known.frame ∙ e
+        y_held : is_held (L y) ≡ s.holds y
+        y_held = t.stages y (λ goes. let two : Stays ≡ Goes = sym (tell_y ∙ y_stays) ∙ goes in absurd cc)
 
         by_stage : (v : Stage) → L k.context ≡ v → Arrival
-        by_stage Coming is = Arrives is (may_is true (sym y_held ∙ ap is_held (sym y_moved ∙ come.new is)))
+        by_stage Coming is = Arrives is (may_is (Some y) true (unheld_k stays come.unheld) parent_is (sym y_held ∙ ap is_held (sym y_moved ∙ come.new is)))
         by_stage Held is = absurd (come.unheld is)
-        by_stage Gone is = IsLost is (may_is false (sym y_held ∙ not_held (L y) (λ held. come.gone is (y_moved ∙ held)))) unheld
+        by_stage Gone is = IsLost is (may_is (Some y) false (unheld_k stays come.unheld) parent_is (sym y_held ∙ not_held (L y) (λ held. come.gone is (y_moved ∙ held)))) (unheld_k stays come.unheld)
+
+    arrival : (parts_tell k.context (line k.context mk) post ≡ Goes → ⊥) → Arrival
+    arrival stays = by_above (above_in mk k.context) refl
+      where
+        by_above : (o : Option ContextId) → above_in mk k.context ≡ o → Arrival
+        by_above None top = arrival_top stays top
+        by_above (Some y) up = arrival_below stays y up
 
     -- what is told of another context
     tell_other : (x : ContextId) → same_context x k.context ≡ false → parts_tell x (line x mk) (downs.Create k ∷ post) ≡ parts_tell x (line x mk) post
@@ -241,11 +244,12 @@ module _ (c : Config) (p : ℕ) (mk : List Making) (l : Lined mk) where
       ties = seen_still c.tabs p mk s (Came k) l fits.known t.ties;
       stages = stages_now;
       owners = owners_now;
-      coming = λ x z m others up comes. coming_now x z m others up comes (same_context x k.context) refl;
+      coming = λ x z others up comes. coming_now x z others up comes (same_context x k.context) refl;
+      coming_top = λ x others top comes. top_now x others top comes (same_context x k.context) refl;
     }
       where
-        stages_now : (x : ContextId) → is_of_its_tabs c p mk x ≡ true → (parts_tell x (line x mk) post ≡ Goes → ⊥) → is_held (moved (comes_if (same_context x k.context)) (L x)) ≡ (seen_after p (Came k) s).holds x
-        stages_now x m stays = by_same (same_context x k.context) refl ∙ sym (came_holds x)
+        stages_now : (x : ContextId) → (parts_tell x (line x mk) post ≡ Goes → ⊥) → is_held (moved (comes_if (same_context x k.context)) (L x)) ≡ (seen_after p (Came k) s).holds x
+        stages_now x stays = by_same (same_context x k.context) refl ∙ sym (came_holds x)
           where
             by_arrival : x ≡ k.context → Arrival → is_held (moved Comes (L x)) ≡ (if may_come p s k then true else s.holds x)
             by_arrival same (Arrives new may) = ap (λ z. is_held (moved Comes (L z))) same ∙ ap (λ v. is_held (moved Comes v)) new ∙ sym (ap (λ (b : Bool). if b then true else s.holds x) may)
@@ -253,11 +257,11 @@ module _ (c : Config) (p : ℕ) (mk : List Making) (l : Lined mk) where
 
             by_same : (v : Bool) → same_context x k.context ≡ v → is_held (moved (comes_if v) (L x)) ≡ (if may_come p s k then if v then true else s.holds x else s.holds x)
             by_same true is = let same : x ≡ k.context = same_context_is x k.context is in by_arrival same (arrival (λ goes. stays (ap (λ z. parts_tell z (line z mk) post) same ∙ goes)))
-            by_same false isnt = t.stages x m (λ goes. stays (sym (tell_other x isnt) ∙ goes)) ∙ sym (either (may_come p s k) (s.holds x))
+            by_same false isnt = t.stages x (λ goes. stays (sym (tell_other x isnt) ∙ goes)) ∙ sym (either (may_come p s k) (s.holds x))
 
-        owners_now : (x : ContextId) → is_of_its_tabs c p mk x ≡ true → (parts_tell x (line x mk) post ≡ Goes → ⊥) → (seen_after p (Came k) s).holds x ≡ true
+        owners_now : (x : ContextId) → (parts_tell x (line x mk) post ≡ Goes → ⊥) → (seen_after p (Came k) s).holds x ≡ true
             → (seen_after p (Came k) s).owns x ≡ owned_behind (hand_if (same_context x k.context) (told_owner k.owned)) (O x)
-        owners_now x m stays held = came_owns x ∙ by_same (same_context x k.context) refl (sym (came_holds x) ∙ held)
+        owners_now x stays held = came_owns x ∙ by_same (same_context x k.context) refl (sym (came_holds x) ∙ held)
           where
             owner_is : (b o : Bool) → b ≡ owned_behind (told_owner b) o
             owner_is true o = refl
@@ -270,14 +274,14 @@ module _ (c : Config) (p : ℕ) (mk : List Making) (l : Lined mk) where
             by_same : (v : Bool) → same_context x k.context ≡ v → (if may_come p s k then if v then true else s.holds x else s.holds x) ≡ true
                 → (if may_come p s k then if v then k.owned else s.owns x else s.owns x) ≡ owned_behind (hand_if v (told_owner k.owned)) (O x)
             by_same true is on = let same : x ≡ k.context = same_context_is x k.context is in by_arrival same (arrival (λ goes. stays (ap (λ z. parts_tell z (line z mk) post) same ∙ goes))) on
-            by_same false isnt on = either (may_come p s k) (s.owns x) ∙ t.owners x m (λ goes. stays (sym (tell_other x isnt) ∙ goes)) (sym (either (may_come p s k) (s.holds x)) ∙ on)
+            by_same false isnt on = either (may_come p s k) (s.owns x) ∙ t.owners x (λ goes. stays (sym (tell_other x isnt) ∙ goes)) (sym (either (may_come p s k) (s.holds x)) ∙ on)
 
-        coming_now : (x z : ContextId) → is_of_its_tabs c p mk x ≡ true → (x.creator == p + 1) ≡ false → above_in mk x ≡ Some z → parts_tell x (line x mk) post ≡ Comes
+        coming_now : (x z : ContextId) → (x.creator == p + 1) ≡ false → above_in mk x ≡ Some z → parts_tell x (line x mk) post ≡ Comes
             → (v : Bool) → same_context x k.context ≡ v → MayCome (λ w. moved (one_tell mk w (downs.Create k)) (L w)) post x z
-        coming_now x z m others up comes true is =
+        coming_now x z others up comes true is =
             absurd (unbrought k.context (line k.context mk) post (others_of (come_all post) apart) (ap (λ w. parts_tell w (line w mk) post) (sym (same_context_is x k.context is)) ∙ comes))
-        coming_now x z m others up comes false isnt =
-            let come : MayCome L (downs.Create k ∷ post) x z = t.coming x z m others up (tell_other x isnt ∙ comes) in
+        coming_now x z others up comes false isnt =
+            let come : MayCome L (downs.Create k ∷ post) x z = t.coming x z others up (tell_other x isnt ∙ comes) in
             let same_x : moved (comes_if (same_context x k.context)) (L x) ≡ L x = ap (λ b. moved (comes_if b) (L x)) isnt in
             let same_z : moved (parts_tell z (line z mk) post) (moved (comes_if (same_context z k.context)) (L z)) ≡ moved (parts_tell z (line z mk) (downs.Create k ∷ post)) (L z) =
             together (comes_if (same_context z k.context)) (parts_tell z (line z mk) post) (L z) in
@@ -286,6 +290,11 @@ module _ (c : Config) (p : ℕ) (mk : List Making) (l : Lined mk) where
               new = λ e. same_z ∙ come.new (sym same_x ∙ e);
               gone = λ e held. come.gone (sym same_x ∙ e) (sym same_z ∙ held);
             }
+
+        top_now : (x : ContextId) → (x.creator == p + 1) ≡ false → above_in mk x ≡ None → parts_tell x (line x mk) post ≡ Comes → (v : Bool) → same_context x k.context ≡ v → moved (comes_if (same_context x k.context)) (L x) ≡ Coming
+        top_now x others top comes true is =
+            absurd (unbrought k.context (line k.context mk) post (others_of (come_all post) apart) (ap (λ w. parts_tell w (line w mk) post) (sym (same_context_is x k.context is)) ∙ comes))
+        top_now x others top comes false isnt = ap (λ b. moved (comes_if b) (L x)) isnt ∙ t.coming_top x others top (tell_other x isnt ∙ comes)
 
   -- ---- a context goes
 
@@ -311,23 +320,24 @@ module _ (c : Config) (p : ℕ) (mk : List Making) (l : Lined mk) where
     unfolding seen_after
     go_step = record {
       ties = seen_still c.tabs p mk s (Went w) l tt t.ties;
-      stages = λ x m stays. by_line x m stays (is_among w (line x mk)) refl ∙ sym (under_is x);
-      owners = λ x m stays held. by_owner x m stays (is_among w (line x mk)) refl (sym (under_is x) ∙ held) (left (s.under x w) (s.holds x) held);
-      coming = λ x z m others up comes. absurd (never_comes x comes);
+      stages = λ x stays. by_line x stays (is_among w (line x mk)) refl ∙ sym (under_is x);
+      owners = λ x stays held. by_owner x stays (is_among w (line x mk)) refl (sym (under_is x) ∙ held) (left (s.under x w) (s.holds x) held);
+      coming = λ x z others up comes. absurd (never_comes x comes);
+      coming_top = λ x others top comes. absurd (never_comes x comes);
     }
       where
-        by_line : (x : ContextId) → is_of_its_tabs c p mk x ≡ true → (parts_tell x (line x mk) post ≡ Goes → ⊥) → (v : Bool) → is_among w (line x mk) ≡ v → is_held (moved (goes_if v) (L x)) ≡ (if v then false else s.holds x)
-        by_line x m stays true is = refl
-        by_line x m stays false out = t.stages x m (λ goes. stays (sym (tell_out x out) ∙ goes))
+        by_line : (x : ContextId) → (parts_tell x (line x mk) post ≡ Goes → ⊥) → (v : Bool) → is_among w (line x mk) ≡ v → is_held (moved (goes_if v) (L x)) ≡ (if v then false else s.holds x)
+        by_line x stays true is = refl
+        by_line x stays false out = t.stages x (λ goes. stays (sym (tell_out x out) ∙ goes))
 
         left : (u v : Bool) → (if u then false else v) ≡ true → u ≡ false
         left true v e = absurd cc
         left false v e = refl
 
-        by_owner : (x : ContextId) → is_of_its_tabs c p mk x ≡ true → (parts_tell x (line x mk) post ≡ Goes → ⊥) → (v : Bool) → is_among w (line x mk) ≡ v → (if v then false else s.holds x) ≡ true
+        by_owner : (x : ContextId) → (parts_tell x (line x mk) post ≡ Goes → ⊥) → (v : Bool) → is_among w (line x mk) ≡ v → (if v then false else s.holds x) ≡ true
             → s.under x w ≡ false → (if s.under x w then false else s.owns x) ≡ O x
-        by_owner x m stays true is on outside = absurd cc
-        by_owner x m stays false out on outside = ap (λ (b : Bool). if b then false else s.owns x) outside ∙ t.owners x m (λ goes. stays (sym (tell_out x out) ∙ goes)) on
+        by_owner x stays true is on outside = absurd cc
+        by_owner x stays false out on outside = ap (λ (b : Bool). if b then false else s.owns x) outside ∙ t.owners x (λ goes. stays (sym (tell_out x out) ∙ goes)) on
 
   -- ---- a part of no tree
 
@@ -335,9 +345,10 @@ module _ (c : Config) (p : ℕ) (mk : List Making) (l : Lined mk) where
   still_so : (s s' : Seen) (L : ContextId → Stage) (O : ContextId → Bool) (post : List DownPart) → TreesKept p s s' → SeenTies c.tabs p mk s' → TakeSo s L O post → TakeSo s' L O post
   still_so s s' L O post kept ties t = record {
     ties = ties;
-    stages = λ x m stays. t.stages x m stays ∙ sym (kept.holds x);
-    owners = λ x m stays held. kept.owns x ∙ t.owners x m stays (sym (kept.holds x) ∙ held);
+    stages = λ x stays. t.stages x stays ∙ sym (kept.holds x);
+    owners = λ x stays held. kept.owns x ∙ t.owners x stays (sym (kept.holds x) ∙ held);
     coming = t.coming;
+    coming_top = t.coming_top;
   }
 
   given_step : (epoch : ℕ) (s : Seen) (x : ContextId) (d : Changes) → SeenTies c.tabs p mk s → TreesKept p s (behind_part p epoch (downs.Commit x d) s) × SeenTies c.tabs p mk (behind_part p epoch (downs.Commit x d) s)
@@ -360,16 +371,17 @@ module _ (c : Config) (p : ℕ) (mk : List Making) (l : Lined mk) where
       → TakeSo s (λ x. moved (parts_tell x (line x mk) (a ∷ post)) (L x)) (λ x. owned_behind (parts_handed x (a ∷ post)) (O x)) []
   so_together s L O a post t = record {
     ties = t.ties;
-    stages = λ x m stays. ap is_held (ap (λ e. moved e (L x)) (tell_more mk x a post) ∙ sym (together (one_tell mk x a) (parts_tell x (line x mk) post) (L x))) ∙ t.stages x m stays;
-    owners = λ x m stays held. t.owners x m stays held ∙ sym (later_owned (parts_handed x post) (one_hand x a) (O x)) ∙ sym (ap (λ h. owned_behind h (O x)) (handed_more x a post));
-    coming = λ x z m others up comes. absurd (stays_never comes);
+    stages = λ x stays. ap is_held (ap (λ e. moved e (L x)) (tell_more mk x a post) ∙ sym (together (one_tell mk x a) (parts_tell x (line x mk) post) (L x))) ∙ t.stages x stays;
+    owners = λ x stays held. t.owners x stays held ∙ sym (later_owned (parts_handed x post) (one_hand x a) (O x)) ∙ sym (ap (λ h. owned_behind h (O x)) (handed_more x a post));
+    coming = λ x z others up comes. absurd (stays_never comes);
+    coming_top = λ x others top comes. absurd (stays_never comes);
   }
     where
       stays_never : Stays ≡ Comes → ⊥
       stays_never e = absurd cc
 
   pub take_so : (epoch : ℕ) (made : ℕ) (s : Seen) (L : ContextId → Stage) (O : ContextId → Bool) (parts : List DownPart) → ComeFirst parts → AllByRecursion (ComingFits c p mk) (come_all parts) → ComeApart (come_all parts)
-      → AllByRecursion (PartFits p made) parts → TakeSo s L O parts
+      → AllByRecursion (SingleFits p made) parts → TakeSo s L O parts
       → TakeSo (behind_parts p epoch s parts) (λ x. moved (parts_tell x (line x mk) parts) (L x)) (λ x. owned_behind (parts_handed x parts) (O x)) []
   unfolding after_parts
   take_so epoch made s L O [] first come apart kinds t = t
@@ -384,11 +396,11 @@ module _ (c : Config) (p : ℕ) (mk : List Making) (l : Lined mk) where
   take_so epoch made s L O (downs.Commit named d ∷ post) first come apart kinds t =
       let g : TreesKept p s (behind_part p epoch (downs.Commit named d) s) × SeenTies c.tabs p mk (behind_part p epoch (downs.Commit named d) s) = given_step epoch s named d t.ties in
       take_so epoch made (behind_part p epoch (downs.Commit named d) s) L O post first.1 come apart kinds.1
-      (still_so s (behind_part p epoch (downs.Commit named d) s) L O post g.0 g.1 (record { ties = t.ties; stages = t.stages; owners = t.owners; coming = λ x z m others up comes. let may : MayCome L (downs.Commit named d ∷ post) x z = t.coming x z m others up comes in record { unheld = may.unheld; new = may.new; gone = may.gone } }))
+      (still_so s (behind_part p epoch (downs.Commit named d) s) L O post g.0 g.1 (record { ties = t.ties; stages = t.stages; owners = t.owners; coming = λ x z others up comes. let may : MayCome L (downs.Commit named d ∷ post) x z = t.coming x z others up comes in record { unheld = may.unheld; new = may.new; gone = may.gone }; coming_top = t.coming_top }))
   take_so epoch made s L O (downs.Kill ∷ post) first come apart kinds t =
       let g : TreesKept p s (behind_part p epoch downs.Kill s) × SeenTies c.tabs p mk (behind_part p epoch downs.Kill s) = kill_step epoch s t.ties in
       take_so epoch made (behind_part p epoch downs.Kill s) L O post first.1 come apart kinds.1
-      (still_so s (behind_part p epoch downs.Kill s) L O post g.0 g.1 (record { ties = t.ties; stages = t.stages; owners = t.owners; coming = λ x z m others up comes. let may : MayCome L (downs.Kill ∷ post) x z = t.coming x z m others up comes in record { unheld = may.unheld; new = may.new; gone = may.gone } }))
+      (still_so s (behind_part p epoch downs.Kill s) L O post g.0 g.1 (record { ties = t.ties; stages = t.stages; owners = t.owners; coming = λ x z others up comes. let may : MayCome L (downs.Kill ∷ post) x z = t.coming x z others up comes in record { unheld = may.unheld; new = may.new; gone = may.gone }; coming_top = t.coming_top }))
   take_so epoch made s L O (_ ∷ post) first come apart kinds t = absurd kinds.0
 
 -- ---- the take
@@ -400,34 +412,35 @@ module _ (c : Config) (p : ℕ) (mk : List Making) (l : Lined mk) (s : Seen) (st
     look = tree_look c p mk
 
     abbrev begin : Begin ContextId
-    begin = tree_begin c p
+    begin = tree_begin c p mk
 
     abbrev parts : List DownPart
-    parts = d.content.parts
+    parts = singles d.content.parts
 
-    tells_mine : (x : ContextId) → is_of_its_tabs c p mk x ≡ true → (tree_look c p mk).tells x d.content ≡ parts_tell x (line x mk) d.content.parts
-    tells_mine x m = ap (λ (b : Bool). if b then parts_tell x (line x mk) parts else Stays) m
+    kinds : AllByRecursion (SingleFits p s.frames_made) (singles d.content.parts)
+    kinds = singles_fit p s.frames_made d.content.parts fits.kinds
 
-    coming_first : (x y : ContextId) → is_of_its_tabs c p mk x ≡ true → (x.creator == p + 1) ≡ false → above_in mk x ≡ Some y → parts_tell x (line x mk) d.content.parts ≡ Comes
-        → MayCome c p mk l (λ z. stage (tree_look c p mk) (tree_begin c p) z g) d.content.parts x y
-    coming_first x y m others up comes =
-        let mine_y : is_of_its_tabs c p mk y ≡ true = sym (ap (is_held_at_start c.tabs p) (l.root_step x y up)) ∙ m in
+    keeps : Keeps (tree_look c p mk) (tree_begin c p mk) g
+    keeps = record { lawful = lawful c p mk l; flows = flows; fits = t.fits }
+
+    coming_first : (x y : ContextId) → (x.creator == p + 1) ≡ false → above_in mk x ≡ Some y → parts_tell x (line x mk) (singles d.content.parts) ≡ Comes
+        → MayCome c p mk l (λ z. stage (tree_look c p mk) (tree_begin c p mk) z g) (singles d.content.parts) x y
+    coming_first x y others up comes =
         let law : (stage look begin x g ≡ Held → ⊥)
         × (stage look begin x g ≡ Coming → moved (look.tells y d.content) (stage look begin y g) ≡ Held)
         × (stage look begin x g ≡ Gone → moved (look.tells y d.content) (stage look begin y g) ≡ Held → ⊥) =
-        comings_below look begin d g (record { lawful = lawful c p mk l; flows = flows; fits = t.fits }) runs first x y others up (tells_mine x m ∙ comes) in
-        record {
-          unheld = law.0;
-          new = λ e. sym (ap (λ a. moved a (stage look begin y g)) (tells_mine y mine_y)) ∙ law.1 e;
-          gone = λ e held. law.2 e (ap (λ a. moved a (stage look begin y g)) (tells_mine y mine_y) ∙ held);
-        }
+        comings_below look begin d g keeps runs first x y others up comes in
+        record { unheld = law.0; new = law.1; gone = law.2 }
+
+    top_first : (x : ContextId) → (x.creator == p + 1) ≡ false → above_in mk x ≡ None → parts_tell x (line x mk) (singles d.content.parts) ≡ Comes → stage (tree_look c p mk) (tree_begin c p mk) x g ≡ Coming
+    top_first x others top comes = first_new look begin (lawful c p mk l) x others top d g flows t.fits runs first comes
 
     -- what is answered behind the parts
-    so : (epoch : ℕ) → TakeSo c p mk l (behind_parts p epoch s d.content.parts) (λ x. moved (parts_tell x (line x mk) d.content.parts) (stage (tree_look c p mk) (tree_begin c p) x g))
-        (λ x. owned_behind (parts_handed x d.content.parts) (owns (tree_look c p mk) (tree_begin c p) x g)) []
+    so : (epoch : ℕ) → TakeSo c p mk l (behind_parts p epoch s (singles d.content.parts)) (λ x. moved (parts_tell x (line x mk) (singles d.content.parts)) (stage (tree_look c p mk) (tree_begin c p mk) x g))
+        (λ x. owned_behind (parts_handed x (singles d.content.parts)) (owns (tree_look c p mk) (tree_begin c p mk) x g)) []
     so epoch =
-        take_so c p mk l epoch s.frames_made s (λ x. stage look begin x g) (λ x. owns look begin x g) parts fits.first fits.come fits.apart fits.kinds
-        (record { ties = st; stages = λ x m stays. t.stages x m; owners = λ x m stays. t.owners x m; coming = coming_first })
+        take_so c p mk l epoch s.frames_made s (λ x. stage look begin x g) (λ x. owns look begin x g) parts fits.first fits.come fits.apart kinds
+        (record { ties = st; stages = λ x stays. t.stages x; owners = λ x stays. t.owners x; coming = coming_first; coming_top = top_first })
 
     -- what isn't brought: its own
     own_come : (x : ContextId) → x.creator ≡ p + 1 → (ks : List Known) → AllByRecursion (ComingFits c p mk) ks → AllByRecursion (λ j. same_context j.context x ≡ false) ks
@@ -440,7 +453,7 @@ module _ (c : Config) (p : ℕ) (mk : List Making) (l : Lined mk) (s : Seen) (st
             true_false (k.context.creator == p + 1) (eq-eqb k.context.creator (p + 1) (ap (λ (z : ContextId). z.creator) (same_context_is k.context x is) ∙ own)) all.0.others
 
     -- what of its own goes with a discard that names it or one above
-    goes_by : (x : ContextId) → x.creator ≡ p + 1 → s.frames_made < x.serial → (ps : List DownPart) → AllByRecursion (PartFits p s.frames_made) ps → parts_tell x (line x mk) ps ≡ Goes
+    goes_by : (x : ContextId) → x.creator ≡ p + 1 → s.frames_made < x.serial → (ps : List DownPart) → AllByRecursion (SingleFits p s.frames_made) ps → parts_tell x (line x mk) ps ≡ Goes
         → (a : ContextId) × (above_in mk x ≡ Some a) × (parts_tell a (line a mk) ps ≡ Goes)
     goes_by x own later [] kinds e = absurd cc
     goes_by x own later (downs.Create k ∷ ps) kinds e = more (goes_by x own later ps kinds.1) (both_goes (comes_if (same_context x k.context)) (parts_tell x (line x mk) ps) e)
@@ -470,21 +483,30 @@ module _ (c : Config) (p : ℕ) (mk : List Making) (l : Lined mk) (s : Seen) (st
         → s'.frames_made ≡ s.frames_made → TreeSeen c p mk s' (Takes d ∷ g)
     took s' epoch holds owning made = record {
       fits = ((λ r. tt), t.fits);
-      stages = λ x m. ap (λ a. is_held (moved a (stage look begin x g))) (tells_mine x m) ∙ (so epoch).stages x m never_goes ∙ sym (holds x);
-      owners = λ x m held. owning x ∙ (so epoch).owners x m never_goes (sym (holds x) ∙ held) ∙ sym (ap (λ h. owned_behind h (owns look begin x g)) (handed_is x m (sym (holds x) ∙ held)));
+      stages = λ x. (so epoch).stages x never_goes ∙ sym (holds_single x) ∙ sym (holds x);
+      owners = λ x held.
+          let on : (behind_parts p epoch s (singles d.content.parts)).holds x ≡ true = sym (holds_single x) ∙ sym (holds x) ∙ held in
+          owning x ∙ owns_single x ∙ (so epoch).owners x never_goes on ∙ sym (ap (λ h. owned_behind h (owns look begin x g)) (handed_is x on));
       unmade = λ x own later. not_made x own (subst (λ n. n < x.serial) made later);
     }
       where
         never_goes : Stays ≡ Goes → ⊥
         never_goes e = absurd cc
 
-        handed_is : (x : ContextId) → is_of_its_tabs c p mk x ≡ true → (behind_parts p epoch s d.content.parts).holds x ≡ true → (tree_look c p mk).handed x d.content ≡ parts_handed x d.content.parts
-        handed_is x m held = ap (λ (b : Bool). if b then handed_unless (parts_tell x (line x mk) parts) (parts_handed x parts) else Same) m ∙ by_effect (parts_tell x (line x mk) parts) refl
+        -- taking the contexts one by one leaves the same
+        holds_single : (x : ContextId) → (behind_parts p epoch s d.content.parts).holds x ≡ (behind_parts p epoch s (singles d.content.parts)).holds x
+        holds_single x = ap (λ (u : Seen). u.holds x) (sym (taken_single p epoch d.content.parts s))
+
+        owns_single : (x : ContextId) → (behind_parts p epoch s d.content.parts).owns x ≡ (behind_parts p epoch s (singles d.content.parts)).owns x
+        owns_single x = ap (λ (u : Seen). u.owns x) (sym (taken_single p epoch d.content.parts s))
+
+        handed_is : (x : ContextId) → (behind_parts p epoch s (singles d.content.parts)).holds x ≡ true → (tree_look c p mk).handed x d.content ≡ parts_handed x (singles d.content.parts)
+        handed_is x held = by_effect (parts_tell x (line x mk) parts) refl
           where
-            by_effect : (e : Effect) → parts_tell x (line x mk) d.content.parts ≡ e → handed_unless e (parts_handed x d.content.parts) ≡ parts_handed x d.content.parts
+            by_effect : (e : Effect) → parts_tell x (line x mk) (singles d.content.parts) ≡ e → handed_unless e (parts_handed x (singles d.content.parts)) ≡ parts_handed x (singles d.content.parts)
             by_effect Stays is = refl
             by_effect Comes is = refl
-            by_effect Goes is = true_false ((behind_parts p epoch s parts).holds x) held (sym ((so epoch).stages x m never_goes) ∙ ap (λ e. is_held (moved e (stage look begin x g))) is)
+            by_effect Goes is = true_false ((behind_parts p epoch s parts).holds x) held (sym ((so epoch).stages x never_goes) ∙ ap (λ e. is_held (moved e (stage look begin x g))) is)
 
         not_made : (x : ContextId) → x.creator ≡ p + 1 → s.frames_made < x.serial → IsUnmade c p mk x (Takes d ∷ g)
         not_made x own later = let u : IsUnmade c p mk x g = t.unmade x own later in record {
@@ -493,29 +515,19 @@ module _ (c : Config) (p : ℕ) (mk : List Making) (l : Lined mk) (s : Seen) (st
         }
           where
             never_comes : (tree_look c p mk).tells x d.content ≡ Comes → ⊥
-            never_comes e = by_mine (is_of_its_tabs c p mk x) refl e
-              where
-                by_mine : (v : Bool) → is_of_its_tabs c p mk x ≡ v → (if v then parts_tell x (line x mk) d.content.parts else Stays) ≡ Comes → ⊥
-                by_mine true m e = unbrought x (line x mk) parts (own_come x own (come_all parts) fits.come) e
-                by_mine false m e = absurd cc
+            never_comes e = unbrought x (line x mk) parts (own_come x own (come_all parts) fits.come) e
 
-            by_effect : IsUnmade c p mk x g → (a : Effect) → (tree_look c p mk).tells x d.content ≡ a → moved ((tree_look c p mk).tells x d.content) (stage (tree_look c p mk) (tree_begin c p) x g) ≡ Held → ⊥
+            by_effect : IsUnmade c p mk x g → (a : Effect) → (tree_look c p mk).tells x d.content ≡ a → moved ((tree_look c p mk).tells x d.content) (stage (tree_look c p mk) (tree_begin c p mk) x g) ≡ Held → ⊥
             by_effect u Stays is e = u.unheld (sym (ap (λ a. moved a (stage look begin x g)) is) ∙ e)
             by_effect u Comes is e = never_comes is
             by_effect u Goes is e = let two : Gone ≡ Held = sym (ap (λ a. moved a (stage look begin x g)) is) ∙ e in absurd cc
 
-            by_gone : IsUnmade c p mk x g → (stage (tree_look c p mk) (tree_begin c p) x g ≡ Gone) ⊎ ((tree_look c p mk).tells x d.content ≡ Goes)
-                → Above (tree_look c p mk) x (λ a. stage (tree_look c p mk) (tree_begin c p) a (Takes d ∷ g) ≡ Gone)
+            by_gone : IsUnmade c p mk x g → (stage (tree_look c p mk) (tree_begin c p mk) x g ≡ Gone) ⊎ ((tree_look c p mk).tells x d.content ≡ Goes)
+                → Above (tree_look c p mk) x (λ a. stage (tree_look c p mk) (tree_begin c p mk) a (Takes d ∷ g) ≡ Gone)
             by_gone u (inl was) = still (u.with_above was)
               where
-                still : Above (tree_look c p mk) x (λ a. stage (tree_look c p mk) (tree_begin c p) a g ≡ Gone) → Above (tree_look c p mk) x (λ a. stage (tree_look c p mk) (tree_begin c p) a (Takes d ∷ g) ≡ Gone)
+                still : Above (tree_look c p mk) x (λ a. stage (tree_look c p mk) (tree_begin c p mk) a g ≡ Gone) → Above (tree_look c p mk) x (λ a. stage (tree_look c p mk) (tree_begin c p mk) a (Takes d ∷ g) ≡ Gone)
                 still (a, up, gone) = (a, up, gone_behind (look.tells a d.content) (stage look begin a g) gone)
-            by_gone u (inr goes) = by_mine (is_of_its_tabs c p mk x) refl goes
-              where
-                by_mine : (v : Bool) → is_of_its_tabs c p mk x ≡ v → (if v then parts_tell x (line x mk) d.content.parts else Stays) ≡ Goes
-                    → Above (tree_look c p mk) x (λ a. stage (tree_look c p mk) (tree_begin c p) a (Takes d ∷ g) ≡ Gone)
-                by_mine true m e =
-                    let r : (a : ContextId) × (above_in mk x ≡ Some a) × (parts_tell a (line a mk) parts ≡ Goes) = goes_by x own later parts fits.kinds e in
-                    let mine_a : is_of_its_tabs c p mk r.0 ≡ true = sym (ap (is_held_at_start c.tabs p) (l.root_step x r.0 r.1)) ∙ m in
-                    (r.0, r.1, ap (λ a. moved a (stage look begin r.0 g)) (tells_mine r.0 mine_a ∙ r.2))
-                by_mine false m e = absurd cc
+            by_gone u (inr goes) =
+                let r : (a : ContextId) × (above_in mk x ≡ Some a) × (parts_tell a (line a mk) parts ≡ Goes) = goes_by x own later parts kinds goes in
+                (r.0, r.1, ap (λ a. moved a (stage look begin r.0 g)) r.2)

@@ -1,5 +1,5 @@
 -- The trees of an honest process behind a take, and behind any entry.
-use Rattle.std.proofs.Common.{◌≡◌, inl, ℕ, ◌<◌, Bool, true, false, if◌then◌else◌, Some, List, [], ◌∷◌, ◌++◌, refl, ap, sym, subst, ◌∙◌}
+use Rattle.std.proofs.Common.{◌≡◌, inl, ℕ, ◌<◌, Bool, true, false, if◌then◌else◌, Some, List, [], ◌∷◌, ◌++◌, map, refl, ap, sym, subst, ◌∙◌}
 use Rattle.std.specs.Prelude.{is_some}
 use Rattle.std.specs.List.{AllByRecursion, list_any}
 use Rattle.fission_ids.specs.declared.context.ContextId.{ContextId}
@@ -7,13 +7,15 @@ use Rattle.wire_msgs.specs.declared.bundle.DownBundle.{DownBundle}
 use Rattle.wire_msgs.specs.declared.config.Config.{Config}
 use Rattle.wire_msgs.specs.declared.part.DownPart.{DownPart}
 use Rattle.wire_msgs.specs.declared.part.DownPart.TheVariants as downs
+use Rattle.wire_msgs.specs.declared.part.Known.{Known}
 use Rattle.wire_msgs.specs.declared.part.UpPart.{UpPart}
 use Rattle.wire_msgs.specs.declared.part.UpPart.TheVariants as ups
 use Rattle.field_table.specs.Table.{value_in}
 use Rattle.protocol.specs.Fold.{after_parts, behind_all, posts_of}
+use Rattle.model.proofs.Children.{ChildrenLive}
 use Rattle.model.proofs.Cases.{by_if}
 use Rattle.protocol.specs.Seen.{Seen}
-use Rattle.protocol.specs.Seen.Doing.{Took}
+use Rattle.protocol.specs.Seen.Doing.{Came, Took}
 use Rattle.protocol.specs.SeenAfter.{seen_after, with_context}
 use Rattle.protocol.specs.Take.{take_rules, is_kill, may_come, taken_notes}
 use Rattle.protocol.specs.Take as take
@@ -58,6 +60,18 @@ frames_one p epoch made s (downs.Commit x d) fits = by_held (s.holds x)
     by_held true = refl
     by_held false = refl
 frames_one p epoch made s downs.Kill fits = refl
+frames_one p epoch made s (downs.Register g ks) fits = came_frames ks s
+  where
+    came_frames : (ks : List Known) (s : Seen) → (behind_all (seen_after p) (map Came ks) s).frames_made ≡ s.frames_made
+    came_frames [] s = refl
+    came_frames (k ∷ ks) s = came_frames ks (seen_after p (Came k) s) ∙ came_one s k
+      where
+        came_one : (s : Seen) (k : Known) → (seen_after p (Came k) s).frames_made ≡ s.frames_made
+        came_one s k = by_may (may_come p s k)
+          where
+            by_may : (v : Bool) → (if v then with_context k.context (Some k.group) k.parent k.owned (value_in k.fields) s else s).frames_made ≡ s.frames_made
+            by_may true = refl
+            by_may false = refl
 frames_one p epoch made s (_) fits = absurd fits
 
 frames_kept : (p epoch made : ℕ) (s : Seen) (parts : List DownPart) → AllByRecursion (PartFits p made) parts → (behind_parts p epoch s parts).frames_made ≡ s.frames_made
@@ -80,6 +94,7 @@ until_takes d h = by_end (is_ended h)
 module _ (c : Config) (p : ℕ) (mk : List Making) (l : Lined mk) (low : p < 16) (ms : List Moment) (m : Moment) (ft : FactsTies c.tabs mk (facts_now c ms)) (fit : AllFit c.tabs (said ms)) (told_by : AllByRecursion (IsToldBy mk) (makings_said m.says))
     (told_did : AllByRecursion (IsToldBy mk) (makings_done (m.did p))) (flows : Flows (events_of p ms)) (over : is_ended (events_of p ms) ≡ is_some (ended p (said ms))) (st : SeenTies c.tabs p mk (seen_now c p ms))
     (st' : SeenTies c.tabs p mk (seen_now c p (m ∷ ms))) (downs_fit : AllDownFit c p mk ms) (t : TreeTies c p mk (facts_now c ms) (seen_now c p ms) (events_of p ms))
+    (children : is_ended (events_of p ms) ≡ false → ChildrenLive c p mk (facts_now c ms) (events_of p ms))
   where
     abbrev h : List ProcessEvent
     h = events_of p ms
@@ -128,7 +143,7 @@ module _ (c : Config) (p : ℕ) (mk : List Making) (l : Lined mk) (low : p < 16)
 
       taken_ties : TreeTies c p mk (facts_now c ms) (seen_now c p (m ∷ ms)) (Takes d ∷ events_of p ms)
       taken_ties = record {
-        facts = λ runs. let f = t.facts runs in record { fits = ((λ r. tt), f.fits); lives = f.lives; owners = f.owners; known = f.known; own_known = f.own_known };
+        facts = λ runs. let f = t.facts runs in record { fits = ((λ r. tt), f.fits); told = f.told; lives = f.lives; owners = f.owners; known = f.known; own_known = f.own_known };
         seen = subst (TreeSeen c p mk next) (sym (until_takes d h)) seen_taken;
       }
 
@@ -172,9 +187,9 @@ module _ (c : Config) (p : ℕ) (mk : List Making) (l : Lined mk) (low : p < 16)
     pub behind : Entry c p ms m → Behind c p mk ms m
     behind (Idle is) = own_behind (idle_ties c p mk l ms m st t is) is.says (subst Flow (sym is.events) (flows, refl))
     behind (Sets x d b is) = own_behind (set_ties c p mk l ms m st t x d b is) is.says (subst Flow (sym is.events) ((tt, flows), refl))
-    behind (Frames a b is) = own_behind (frame_ties c p mk l ms m st t a b is told_did) is.says (subst Flow (sym is.events) ((tt, (tt, flows)), refl))
-    behind (Drops x b is) = own_behind (drop_ties c p mk l ms m st t x b is) is.says (subst Flow (sym is.events) ((tt, (tt, flows)), refl))
+    behind (Frames a b is) = own_behind (frame_ties c p mk l ms m st t flows a b is told_did) is.says (subst Flow (sym is.events) ((tt, (tt, flows)), refl))
+    behind (Drops x b is) = own_behind (drop_ties c p mk l ms m st t flows x b is) is.says (subst Flow (sym is.events) ((tt, (tt, flows)), refl))
     behind (TakesOne d rest is) = behind_taken d rest is
-    behind (Tells posts is) = behind_told c p mk l low ms m ft fit told_by flows over t posts is
+    behind (Tells posts is) = behind_told c p mk l low ms m ft fit told_by flows over t children posts is
     behind (Killing d is) = behind_killed c p mk l low ms m ft fit told_by flows over t d is
     behind (HearsOne b rest first hears) = behind_heard c p mk l low ms m ft fit told_by flows over t b (record { rest = rest; is = first }) hears

@@ -14,6 +14,7 @@ use Rattle.protocol.specs.Seen.Doing.{Framed, Went, Wrote as OwnWrote}
 use Rattle.protocol.specs.SeenAfter.{seen_after}
 use Rattle.traces.specs.Event.Event.{Writes, Does}
 use Rattle.traces.specs.Links.{is_ended}
+use Rattle.traces.specs.Rules.{Flows}
 use Rattle.trees.specs.Rules.{Fits}
 use Rattle.model.specs.Lines.{Making, makings_done}
 use Rattle.model.specs.Moments.{Moment, Written, ProcessEvent, said, did_by, events_of, facts_now, seen_now, own_known}
@@ -25,11 +26,11 @@ use Rattle.model.proofs.AskedMore.{own_asked_more}
 use Rattle.model.proofs.Entry.{IsIdle, IsSet, IsFrame, IsDrop}
 use Rattle.model.proofs.Holding.{SeenTies}
 use Rattle.model.proofs.Lining.{Lined, IsToldBy}
-use Rattle.model.proofs.TreeEvents.{until_end, all_events, never_ends}
+use Rattle.model.proofs.TreeEvents.{until_end, all_events, never_ends, flows_still}
 use Rattle.model.proofs.TreeFacts.{TreeFacts}
 use Rattle.model.proofs.TreeOwn.{IsPlain, TreeSeen, wrote_plain, wrote_frame, wrote_drop}
 
--- what the process and the parent answer of its trees is what its events tell
+-- what the process and the parent answer of the trees is what the events of the process tell
 pub record TreeTies (c : Config) (p : ℕ) (mk : List Making) (f : Facts) (s : Seen) (h : List ProcessEvent) : Type 0 where
   pub facts : is_ended h ≡ false → TreeFacts c p mk f h
   pub seen : TreeSeen c p mk s (until_end h)
@@ -52,15 +53,15 @@ until_deed d h = by_end (is_ended h)
     by_end false = refl
 
 -- the fits of who isn't ended are those up to its end
-fits_all : (c : Config) (p : ℕ) (mk : List Making) (s : Seen) (h : List ProcessEvent) → TreeSeen c p mk s (until_end h) → is_ended h ≡ false → Fits (tree_look c p mk) (tree_begin c p) h
-fits_all c p mk s h t runs = subst (Fits (tree_look c p mk) (tree_begin c p)) (all_events h runs) t.fits
+fits_all : (c : Config) (p : ℕ) (mk : List Making) (s : Seen) (h : List ProcessEvent) → TreeSeen c p mk s (until_end h) → is_ended h ≡ false → Fits (tree_look c p mk) (tree_begin c p mk) h
+fits_all c p mk s h t runs = subst (Fits (tree_look c p mk) (tree_begin c p mk)) (all_events h runs) t.fits
 
 -- a write leaves lives, owners and names
-wrote_facts : (c : Config) (p : ℕ) (mk : List Making) (f : Facts) (w : Written) (h : List ProcessEvent) → Fits (tree_look c p mk) (tree_begin c p) (Writes w ∷ h) → TreeFacts c p mk f h → TreeFacts c p mk f (Writes w ∷ h)
-wrote_facts c p mk f w h fits t = record { fits = fits; lives = t.lives; owners = t.owners; known = t.known; own_known = t.own_known }
+wrote_facts : (c : Config) (p : ℕ) (mk : List Making) (f : Facts) (w : Written) (h : List ProcessEvent) → Fits (tree_look c p mk) (tree_begin c p mk) (Writes w ∷ h) → TreeFacts c p mk f h → TreeFacts c p mk f (Writes w ∷ h)
+wrote_facts c p mk f w h fits t = record { fits = fits; told = t.told; lives = t.lives; owners = t.owners; known = t.known; own_known = t.own_known }
 
 deed_facts : (c : Config) (p : ℕ) (mk : List Making) (f : Facts) (d : DownBundle) (h : List ProcessEvent) → TreeFacts c p mk f h → TreeFacts c p mk f (Does d ∷ h)
-deed_facts c p mk f d h t = record { fits = ((λ r. tt), t.fits); lives = t.lives; owners = t.owners; known = t.known; own_known = t.own_known }
+deed_facts c p mk f d h t = record { fits = ((λ r. tt), t.fits); told = t.told; lives = t.lives; owners = t.owners; known = t.known; own_known = t.own_known }
 
 deed_seen : (c : Config) (p : ℕ) (mk : List Making) (s : Seen) (d : DownBundle) (g : List ProcessEvent) → TreeSeen c p mk s g → TreeSeen c p mk s (Does d ∷ g)
 deed_seen c p mk s d g t = record {
@@ -110,19 +111,19 @@ module _ (c : Config) (p : ℕ) (mk : List Making) (l : Lined mk) (ms : List Mom
       wrote_ties c p mk (facts_now c ms) s' (Own b) (Does d ∷ h) (λ runs. deed_facts c p mk (facts_now c ms) d h (t.facts runs))
       (subst (λ g. TreeSeen c p mk s' (Writes (Own b) ∷ g)) (sym (until_deed d h)) seen)
 
-  pub frame_ties : (a : ContextId) (b : UpBundle) → IsFrame c p ms m a b → AllByRecursion (IsToldBy mk) (makings_done (m.did p)) → TreeTies c p mk (facts_now c (m ∷ ms)) (seen_now c p (m ∷ ms)) (m.events p ++ events_of p ms)
-  frame_ties a b is told =
+  pub frame_ties : Flows (events_of p ms) → (a : ContextId) (b : UpBundle) → IsFrame c p ms m a b → AllByRecursion (IsToldBy mk) (makings_done (m.did p)) → TreeTies c p mk (facts_now c (m ∷ ms)) (seen_now c p (m ∷ ms)) (m.events p ++ events_of p ms)
+  frame_ties flows a b is told =
       let z : ContextId = next_frame p (seen_now c p ms) in
       let made : AllByRecursion (IsToldBy mk) (makings_done (Framed (next_frame p (seen_now c p ms)) a ∷ [])) = subst (λ ds. AllByRecursion (IsToldBy mk) (makings_done ds)) is.did told in
       let d : DownBundle = record { epoch = record { 0 = 0 }; parts = downs.Create (own_known (seen_now c p (m ∷ ms)) (next_frame p (seen_now c p ms)) a) ∷ [] } in
       by_events (Writes (Own b) ∷ Does d ∷ []) (seen_after p (Framed (next_frame p (seen_now c p ms)) a) (seen_now c p ms)) is.says is.events (done_one (Framed (next_frame p (seen_now c p ms)) a) is.did)
       (deed_ties b d (seen_after p (Framed (next_frame p (seen_now c p ms)) a) (seen_now c p ms))
       (wrote_frame c p mk l (seen_now c p ms) st (Does d ∷ until_end h) (never_ends h) (deed_seen c p mk (seen_now c p ms) d (until_end h) t.seen) b (next_frame p (seen_now c p ms)) a
-      (record { next = refl; held = is.held; made = made.0 }) is.sent.parts))
+      (record { next = refl; held = is.held; made = made.0 }) is.sent.parts (tt, flows_still h flows)))
 
-  pub drop_ties : (x : ContextId) (b : UpBundle) → IsDrop c p ms m x b → TreeTies c p mk (facts_now c (m ∷ ms)) (seen_now c p (m ∷ ms)) (m.events p ++ events_of p ms)
-  drop_ties x b is =
+  pub drop_ties : Flows (events_of p ms) → (x : ContextId) (b : UpBundle) → IsDrop c p ms m x b → TreeTies c p mk (facts_now c (m ∷ ms)) (seen_now c p (m ∷ ms)) (m.events p ++ events_of p ms)
+  drop_ties flows x b is =
       let d : DownBundle = record { epoch = record { 0 = 0 }; parts = downs.Discard x ∷ [] } in
       by_events (Writes (Own b) ∷ Does d ∷ []) (seen_after p (Went x) (seen_now c p ms)) is.says is.events (done_one (Went x) is.did)
       (deed_ties b d (seen_after p (Went x) (seen_now c p ms))
-      (wrote_drop c p mk l (seen_now c p ms) st (Does d ∷ until_end h) (never_ends h) (deed_seen c p mk (seen_now c p ms) d (until_end h) t.seen) b x is.held is.owned is.sent.parts))
+      (wrote_drop c p mk l (seen_now c p ms) st (Does d ∷ until_end h) (never_ends h) (deed_seen c p mk (seen_now c p ms) d (until_end h) t.seen) b x is.held is.owned is.sent.parts (tt, flows_still h flows)))

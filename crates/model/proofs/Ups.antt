@@ -23,22 +23,22 @@ use Rattle.protocol.specs.Questions.{Facts, option_any, is_told, is_judged, is_o
 use Rattle.protocol.specs.Seen.{Seen}
 use Rattle.traces.specs.Links.{writes_waiting, is_ended}
 use Rattle.traces.specs.Rules.{Flows, IsFirst}
-use Rattle.traces.specs.Words.{Stage}
-use Rattle.traces.specs.Words.Stage.{Coming, Held, Gone}
+use Rattle.traces.specs.Words.Stage.{Held}
 use Rattle.trees.specs.Rules.{Keeps}
-use Rattle.trees.specs.Words.{life, is_held, is_known}
+use Rattle.trees.specs.Words.{life, is_known}
 use Rattle.trees.proofs.Dropping.{may_drop}
 use Rattle.trees.proofs.Knowing.{good_ids}
 use Rattle.model.specs.Lines.{Making, above_in}
 use Rattle.model.specs.Moments.{Written, ProcessEvent}
 use Rattle.model.specs.Moments.Written.{Own}
-use Rattle.model.specs.Trees.{parts_create, parts_need, parts_drop, is_of_its_tabs, tree_look, tree_begin}
+use Rattle.model.specs.Trees.{parts_create, parts_need, parts_drop, tree_look, tree_begin}
 use Rattle.model.proofs.Cases.{both_true, true_false, same_itself}
 use Rattle.model.proofs.Entry.{IsAck}
 use Rattle.model.proofs.Fitting.{FactsTies}
 use Rattle.model.proofs.Good.{IsDue, IsGood}
 use Rattle.model.proofs.Good.IsGood.{GoodCreate, GoodDrop, GoodAcks, GoodCommit}
 use Rattle.model.proofs.Lining.{Lined}
+use Rattle.model.proofs.Living.{held_only}
 use Rattle.model.proofs.TreeFacts.{TreeFacts}
 use Rattle.model.proofs.TreeLawful.{lawful}
 
@@ -96,16 +96,10 @@ denied_heard mk p f allows x t up = ap (λ test. filter test (modified_fields t)
 
 -- ---- what waits
 
--- a context is below another, both in trees that the process has from the start
-pub record InItsTrees (c : Config) (p : ℕ) (mk : List Making) (x a : ContextId) : Type 0 where
-  pub below : above_in mk x ≡ Some a
-  pub mine : is_of_its_tabs c p mk x ≡ true
-  pub mine_above : is_of_its_tabs c p mk a ≡ true
-
--- what an honest process sends: a frame, a drop, acknowledgements, or a commit of what it may write
+-- what an honest process sends: a frame, a drop of what is below another, acknowledgements, or a commit of what it may write
 pub data UpShape (c : Config) (p : ℕ) (mk : List Making) (b : UpBundle) : Type 0 where
-  ShapedFrame : (x a : ContextId) → b.parts ≡ ups.Create x a ∷ [] → is_new_frame p x ≡ true → InItsTrees c p mk x a → UpShape c p mk b
-  ShapedDrop : (x a : ContextId) → b.parts ≡ ups.Drop x ∷ [] → InItsTrees c p mk x a → UpShape c p mk b
+  ShapedFrame : (x a : ContextId) → b.parts ≡ ups.Create x a ∷ [] → is_new_frame p x ≡ true → above_in mk x ≡ Some a → UpShape c p mk b
+  ShapedDrop : (x a : ContextId) → b.parts ≡ ups.Drop x ∷ [] → above_in mk x ≡ Some a → UpShape c p mk b
   ShapedAcks : (a : UpPart) (parts : List UpPart) → b.parts ≡ a ∷ parts → AllByRecursion IsAck (a ∷ parts) → UpShape c p mk b
   ShapedCommit : (x : ContextId) (t : Changes) → b.parts ≡ ups.Commit x t ∷ [] → denied_ever mk p x t ≡ [] → UpShape c p mk b
 
@@ -135,18 +129,10 @@ pub record UpTies (c : Config) (p : ℕ) (mk : List Making) (f : Facts) (s : See
 
 -- ---- the first of it
 
-held_only : (s : Stage) → is_held s ≡ true → s ≡ Held
-held_only Coming e = absurd cc
-held_only Held e = refl
-held_only Gone e = absurd cc
-
 pub acks_count : (parts : List UpPart) → AllByRecursion IsAck parts → list_any is_commit parts ≡ false
 acks_count [] all = refl
 acks_count (ups.DropAck x ∷ parts) all = acks_count parts all.1
 acks_count (_ ∷ parts) all = absurd all.0
-
-both_are : (a b : Bool) → a ≡ true → b ≡ true → (a && b) ≡ true
-both_are a b e d = ap (λ v. v && b) e ∙ d
 
 or_is : (a b : Bool) → a ≡ true → (a || b) ≡ true
 or_is a b e = ap (λ v. v || b) e
@@ -154,38 +140,38 @@ or_is a b e = ap (λ v. v || b) e
 module _ (c : Config) (p : ℕ) (mk : List Making) (l : Lined mk) (f : Facts) (ft : FactsTies c.tabs mk f) (h : List ProcessEvent) (t : TreeFacts c p mk f h) (flows : Flows h) (runs : is_ended h ≡ false)
     (b : UpBundle) (rest : List Written) (waits : writes_waiting h ≡ Own b ∷ rest)
   where
-    keeps : Keeps (tree_look c p mk) (tree_begin c p) h
+    keeps : Keeps (tree_look c p mk) (tree_begin c p mk) h
     keeps = record { lawful = lawful c p mk l; flows = flows; fits = t.fits }
 
     first : IsFirst (Own b) (writes_waiting h)
     first = record { rest = rest; is = waits }
 
     -- what it makes isn't known
-    makes_new : (x : ContextId) → is_of_its_tabs c p mk x ≡ true → x.creator ≡ p + 1 → parts_create x b.parts ≡ true → f.contexts.known x ≡ false
-    makes_new x m own e = by_known (f.contexts.known x) refl
+    makes_new : (x : ContextId) → x.creator ≡ p + 1 → parts_create x b.parts ≡ true → f.contexts.known x ≡ false
+    makes_new x own e = by_known (f.contexts.known x) refl
       where
-        unheard : is_known (tree_look c p mk) (tree_begin c p) x h ≡ false
-        unheard = (good_ids (tree_look c p mk) (tree_begin c p) (Own b) h keeps runs first x).0 (both_are (is_of_its_tabs c p mk x) (parts_create x b.parts) m e)
+        unheard : is_known (tree_look c p mk) (tree_begin c p mk) x h ≡ false
+        unheard = (good_ids (tree_look c p mk) (tree_begin c p mk) (Own b) h keeps runs first x).0 e
 
         by_known : (v : Bool) → f.contexts.known x ≡ v → f.contexts.known x ≡ false
         by_known false is = is
-        by_known true is = true_false (is_known (tree_look c p mk) (tree_begin c p) x h) (t.own_known x m own is) unheard
+        by_known true is = true_false (is_known (tree_look c p mk) (tree_begin c p mk) x h) (t.own_known x own is) unheard
 
     -- what else it names is
-    names_known : (x : ContextId) → is_of_its_tabs c p mk x ≡ true → parts_need x b.parts ≡ true → f.contexts.known x ≡ true
-    names_known x m e = t.known x m ((good_ids (tree_look c p mk) (tree_begin c p) (Own b) h keeps runs first x).1 (both_are (is_of_its_tabs c p mk x) (parts_need x b.parts) m e))
+    names_known : (x : ContextId) → parts_need x b.parts ≡ true → f.contexts.known x ≡ true
+    names_known x e = t.known x ((good_ids (tree_look c p mk) (tree_begin c p mk) (Own b) h keeps runs first x).1 e)
 
     -- what it drops is discarded already, or below what it owns
-    drops_well : (x a : ContextId) → InItsTrees c p mk x a → parts_drop x b.parts ≡ true → f.contexts.known x ≡ true → may_be_dropped f p x ≡ true
-    drops_well x a i e known =
-        ap (option_any (λ above. not (f.contexts.live x) || is_owner f p above)) (ft.known_above x known ∙ i.below) ∙ by_live (f.contexts.live x) refl
+    drops_well : (x a : ContextId) → above_in mk x ≡ Some a → parts_drop x b.parts ≡ true → f.contexts.known x ≡ true → may_be_dropped f p x ≡ true
+    drops_well x a up e known =
+        ap (option_any (λ above. not (f.contexts.live x) || is_owner f p above)) (ft.known_above x known ∙ up) ∙ by_live (f.contexts.live x) refl
       where
         by_live : (v : Bool) → f.contexts.live x ≡ v → (not (f.contexts.live x) || is_owner f p a) ≡ true
         by_live false is = ap (λ v. not v || is_owner f p a) is
         by_live true is =
-            let held : life (tree_look c p mk) (tree_begin c p) x h ≡ Held = held_only (life (tree_look c p mk) (tree_begin c p) x h) (t.lives.live x i.mine ∙ is) in
-            let owner : is_owner f p a ≡ true = sym (t.owners a i.mine_above (ft.above_live x a is i.below))
-            ∙ may_drop (tree_look c p mk) (tree_begin c p) (Own b) h keeps runs first x a (both_are (is_of_its_tabs c p mk x) (parts_drop x b.parts) i.mine e) i.below held in
+            let held : life (tree_look c p mk) (tree_begin c p mk) x h ≡ Held = held_only (life (tree_look c p mk) (tree_begin c p mk) x h) (t.lives.live x ∙ is) in
+            let owner : is_owner f p a ≡ true = sym (t.owners a (ft.above_live x a is up))
+            ∙ may_drop (tree_look c p mk) (tree_begin c p mk) (Own b) h keeps runs first x a e up held in
             ap (λ v. not v || is_owner f p a) is ∙ owner
 
     creator_of : (x : ContextId) → is_new_frame p x ≡ true → x.creator ≡ p + 1
@@ -205,12 +191,12 @@ module _ (c : Config) (p : ℕ) (mk : List Making) (l : Lined mk) (f : Facts) (f
         due_of parts is = due_by (if list_any is_commit parts then 1 else 0) (ap (λ (ps : List UpPart). if list_any is_commit ps then 1 else 0) is)
 
         by_shape : UpShape c p mk b → IsGood f p b
-        by_shape (ShapedFrame x a is frame i) = GoodCreate x a is (due_of (ups.Create x a ∷ []) is) frame
-            (makes_new x i.mine (creator_of x frame) (ap (parts_create x) is ∙ or_is (same_context x x) false (same_itself x)))
-            (names_known a i.mine_above (ap (parts_need a) is ∙ or_is (same_context a a) (not (same_context a x) && false) (same_itself a)))
-        by_shape (ShapedDrop x a is i) =
-            let known : f.contexts.known x ≡ true = names_known x i.mine (ap (parts_need x) is ∙ or_is (same_context x x) false (same_itself x)) in
-            GoodDrop x is (due_of (ups.Drop x ∷ []) is) known (drops_well x a i (ap (parts_drop x) is ∙ or_is (same_context x x) false (same_itself x)) known)
+        by_shape (ShapedFrame x a is frame up) = GoodCreate x a is (due_of (ups.Create x a ∷ []) is) frame
+            (makes_new x (creator_of x frame) (ap (parts_create x) is ∙ or_is (same_context x x) false (same_itself x)))
+            (names_known a (ap (parts_need a) is ∙ or_is (same_context a a) (not (same_context a x) && false) (same_itself a)))
+        by_shape (ShapedDrop x a is up) =
+            let known : f.contexts.known x ≡ true = names_known x (ap (parts_need x) is ∙ or_is (same_context x x) false (same_itself x)) in
+            GoodDrop x is (due_of (ups.Drop x ∷ []) is) known (drops_well x a up (ap (parts_drop x) is ∙ or_is (same_context x x) false (same_itself x)) known)
         by_shape (ShapedAcks a parts is all) = GoodAcks a parts is all (due_by 0 (ap (λ (ps : List UpPart). if list_any is_commit ps then 1 else 0) is ∙ ap (λ (v : Bool). if v then 1 else 0) (acks_count (a ∷ parts) all)))
         by_shape (ShapedCommit x t is allowed) = GoodCommit x t is (due_of (ups.Commit x t ∷ []) is) judged
           where

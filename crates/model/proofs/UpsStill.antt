@@ -28,7 +28,6 @@ use Rattle.protocol.specs.Sayings.{Saying}
 use Rattle.protocol.specs.Sayings.Saying.{Made, BornDead, Removed, Wrote as SaysWrote, Acked, Counted, Sent, Ended}
 use Rattle.protocol.specs.Seen.{Seen, Doing}
 use Rattle.protocol.specs.Seen.Doing.{Came, Framed, Went, Wrote, Took}
-use Rattle.protocol.specs.Start.{is_held_at_start}
 use Rattle.protocol.specs.Take.{take_rules, bundle_sent, is_kill}
 use Rattle.protocol.specs.Take as take
 use Rattle.traces.specs.Event.{Bundle}
@@ -49,7 +48,7 @@ use Rattle.model.proofs.Entry.Entry.{Idle, Sets, Frames, Drops, TakesOne, Tells,
 use Rattle.model.proofs.Entry.Hearing.{AsMade, AsLate, AsDrop, AsOldDrop, AsAcks, AsCommit, AsOldCommit, AsOver}
 use Rattle.model.proofs.Holding.{SeenTies}
 use Rattle.model.proofs.Lining.{Lined, IsToldBy}
-use Rattle.model.proofs.Ups.{denied_own, InItsTrees, UpFit, UpFits, one_commit, UpsDue, UpTies, acks_count}
+use Rattle.model.proofs.Ups.{denied_own, UpFit, UpFits, one_commit, UpsDue, UpTies, acks_count}
 use Rattle.model.proofs.Ups.UpShape.{ShapedFrame, ShapedDrop, ShapedAcks, ShapedCommit}
 
 -- ---- what waits, as numbers change
@@ -381,7 +380,7 @@ module _ (c : Config) (p : ℕ) (mk : List Making) (ms : List Moment) (m : Momen
       (waits_by _ e.events ∙ write_waits (Own b) h r.flows)
       (e.sent.epoch_is ∙ no_more s.commits (one_commit b) (one_of (ups.Create (next_frame p s) a) b e.sent.parts))
       (commits_by (Framed (next_frame p s) a ∷ []) e.did ∙ framed_commits (next_frame p s) a (did_by p ms) ∙ no_more s.commits (one_commit b) (one_of (ups.Create (next_frame p s) a) b e.sent.parts))
-      (record { seen = seen_before b e.sent.seen_is; shape = ShapedFrame (next_frame p s) a e.sent.parts new (record { below = up; mine = ap (is_held_at_start c.tabs p) (r.lined.root_step (next_frame p s) a up) ∙ r.ties.held_root a e.held; mine_above = r.ties.held_root a e.held }) })
+      (record { seen = seen_before b e.sent.seen_is; shape = ShapedFrame (next_frame p s) a e.sent.parts new up })
     where
       frames : s'.frames_made ≡ s.frames_made + 1
       frames = frames_by (Framed (next_frame p s) a ∷ []) e.did ∙ framed_frames (next_frame p s) a (did_by p ms)
@@ -405,18 +404,13 @@ module _ (c : Config) (p : ℕ) (mk : List Making) (ms : List Moment) (m : Momen
   after_drop : Before → (x : ContextId) (b : UpBundle) → IsDrop c p ms m x b → After
   after_drop ties x b e = by_above (s.above x) refl
     where
-      in_trees : (a : ContextId) → s.above x ≡ Some a → InItsTrees c p mk x a
-      in_trees a up =
-          let below : above_in mk x ≡ Some a = sym (r.ties.held_above x e.held) ∙ up in
-          record { below = below; mine = r.ties.held_root x e.held; mine_above = r.ties.held_root a (r.ties.above_held x a e.held below) }
-
       by_above : (o : Option ContextId) → s.above x ≡ o → After
       by_above None up = let two : false ≡ true = sym (ap (option_any s.owns) up) ∙ e.owned in absurd cc
       by_above (Some a) up = wrote c p mk f f' s s' h h' ties grows (few_by ties (frames_by (Went x ∷ []) e.did ∙ went_frames x (did_by p ms))) b (heard_by [] e.says)
           (waits_by _ e.events ∙ write_waits (Own b) h r.flows)
           (e.sent.epoch_is ∙ no_more s.commits (one_commit b) (one_of (ups.Drop x) b e.sent.parts))
           (commits_by (Went x ∷ []) e.did ∙ went_commits x (did_by p ms) ∙ no_more s.commits (one_commit b) (one_of (ups.Drop x) b e.sent.parts))
-          (record { seen = seen_before b e.sent.seen_is; shape = ShapedDrop x a e.sent.parts (in_trees a up) })
+          (record { seen = seen_before b e.sent.seen_is; shape = ShapedDrop x a e.sent.parts (sym (r.ties.held_above x e.held) ∙ up) })
 
   after_take : Before → (d : Bundle DownBundle) (rest : List (Bundle DownBundle)) → IsTake c p ms m d rest → After
   after_take ties d rest e = by_posts posts acks e.events

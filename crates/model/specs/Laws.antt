@@ -1,17 +1,25 @@
 -- What holds of every journal whose steps can be played.
 use Rattle.std.specs.Prelude.{◌≡◌, ℕ, ◌+◌, ◌≤◌, ◌<◌, ◌==◌, List, ◌∷◌, length, filter}
-use Rattle.std.specs.Prelude.{Bool, true, false, ◌&&◌, Option, None, Some}
-use Rattle.std.specs.List.{AllByRecursion}
+use Rattle.std.specs.Prelude.{Bool, true, false, ◌&&◌, ◌||◌, Option, None, Some}
+use Rattle.std.specs.List.{AllByRecursion, list_any}
 use Rattle.fission_ids.specs.declared.context.ContextId.{ContextId}
 use Rattle.fission_ids.specs.declared.process.ProcId.{ProcId}
 use Rattle.field_table.specs.declared.field.Field.{Field}
+use Rattle.field_table.specs.declared.value.Value.{Value}
 use Rattle.field_rules.specs.Bounds.{Bounds}
 use Rattle.wire_msgs.specs.Config.{ConfigFits}
 use Rattle.wire_msgs.specs.declared.answer.Answer.{Answer}
 use Rattle.wire_msgs.specs.declared.answer.Answer.TheVariants.{Refused, Ended}
+use Rattle.wire_msgs.specs.declared.bundle.DownBundle.{DownBundle}
+use Rattle.wire_msgs.specs.declared.bundle.UpBundle.{UpBundle}
 use Rattle.wire_msgs.specs.declared.cause.EndCause.{EndCause}
 use Rattle.wire_msgs.specs.declared.cause.EndCause.TheVariants.{Killed}
 use Rattle.wire_msgs.specs.declared.config.Config.{Config}
+use Rattle.wire_msgs.specs.declared.part.DownPart.{DownPart}
+use Rattle.wire_msgs.specs.declared.part.DownPart.TheVariants.{Create, Register}
+use Rattle.wire_msgs.specs.declared.part.Known.{Known}
+use Rattle.wire_msgs.specs.declared.part.UpPart.{UpPart}
+use Rattle.wire_msgs.specs.declared.part.UpPart.TheVariants.{Drop}
 use Rattle.journal.specs.Step.{StepFits}
 use Rattle.journal.specs.declared.entry.Entry.{Entry}
 use Rattle.journal.specs.declared.entry.Step.{Step}
@@ -19,12 +27,18 @@ use Rattle.journal.specs.declared.entry.Step.TheVariants.{Take, Hear}
 use Rattle.fission_ids.specs.Ids.{same_context}
 use Rattle.protocol.specs.Questions.{Facts, is_owner, is_told, option_any}
 use Rattle.protocol.specs.Seen.{Seen}
+use Rattle.traces.specs.Links.{bundles_waiting}
+use Rattle.traces.specs.Replay.{shown_behind}
+use Rattle.traces.specs.Words.Stage.{Coming}
+use Rattle.trees.specs.Children.{owner_behind}
 use Rattle.model.specs.Journal.{steps_of}
+use Rattle.model.specs.Lines.{makings, line, is_among}
 use Rattle.model.specs.Links.{is_quiet, up_waiting, down_waiting}
-use Rattle.model.specs.Moments.{Moment, moment, moments_of, seen_now, facts_now}
+use Rattle.model.specs.Moments.{Moment, moment, moments_of, events_of, seen_now, facts_now}
 use Rattle.model.specs.Next.{Run, run_with, run_after}
 use Rattle.model.specs.Settling.{weight, settled, IsServed, Extends}
-use Rattle.model.specs.View.{view, parent_view, base, point, value_at, newest, is_answered}
+use Rattle.model.specs.Trees.{tree_look}
+use Rattle.model.specs.View.{trace, view, parent_view, base, point, value_at, newest, is_answered}
 use Rattle.model.specs.View.{IsOnItsWay, reverted_in, sent_first, is_honest}
 
 -- a run that can be played
@@ -190,3 +204,63 @@ abbrev pub QuietHasTheSameOrder : Type 0
 QuietHasTheSameOrder = (r : Run) (p : ℕ) → IsAtRest r p →
     let f = facts_now r.config (moments_of r.config r.journal) in
     (seen_now r.config p (moments_of r.config r.journal)).order ≡ filter (λ x. is_told f p x) f.contexts.order
+
+-- ---- what is on its way
+
+-- a part brings a context: a Create of it, or a Register that has it
+abbrev pub brings : ContextId → DownPart → Bool
+brings x (Create k) = same_context x k.context
+brings x (Register g ks) = list_any (λ (k : Known). same_context x k.context) ks
+brings x part = false
+
+-- whether one that does waits for process p
+abbrev pub coming_waits : ℕ → ContextId → List Moment → Bool
+coming_waits p x ms = list_any (λ (d : DownBundle). list_any (brings x) d.parts) (down_waiting p ms)
+
+-- a part drops one of these contexts
+abbrev pub drops_one : List ContextId → UpPart → Bool
+drops_one xs (Drop y) = is_among y xs
+drops_one xs part = false
+
+-- whether a Drop of it, or of a context above it, waits from process p
+abbrev pub drop_waits : ℕ → ContextId → List Moment → Bool
+drop_waits p x ms =
+    list_any (λ (b : UpBundle). list_any (drops_one (line x (makings p ms))) b.parts) (up_waiting p ms)
+
+-- what process p, from nothing, shows of a field behind all that waits for it
+abbrev pub shown_then : ℕ → ContextId → Field → List Moment → Option Value
+shown_then p x f ms = shown_behind Coming None (bundles_waiting (trace p x f ms))
+
+-- whether it owns a context behind all that waits for it, by what it was told before
+abbrev pub owned_then : Config → ℕ → ContextId → Bool → List Moment → Bool
+owned_then c p x before ms =
+    owner_behind ((tree_look c p (makings p ms)).handed x) (bundles_waiting (events_of p ms)) before
+
+-- an honest process that wasn't ended doesn't hold a context that is live and that the parent tells it of
+pub record IsWithout (r : Run) (p : ℕ) (x : ContextId) : Type 0 where
+  pub fits : RunFits r
+  pub process : p < length r.config.types
+  pub honest : is_honest r.config p r.journal ≡ true
+  pub runs : (facts_now r.config (moments_of r.config r.journal)).processes.ended p ≡ None
+  pub live : (facts_now r.config (moments_of r.config r.journal)).contexts.live x ≡ true
+  pub told : is_told (facts_now r.config (moments_of r.config r.journal)) p x ≡ true
+  pub unheld : (seen_now r.config p (moments_of r.config r.journal)).holds x ≡ false
+
+-- then a Create or a Register of it waits for the process, or a Drop of it or of a context above it waits from
+-- the process
+abbrev pub WhatIsToldComes : Type 0
+WhatIsToldComes = (r : Run) (p : ℕ) (x : ContextId) → IsWithout r p x →
+    let ms = moments_of r.config r.journal in
+    (coming_waits p x ms || drop_waits p x ms) ≡ true
+
+-- and where no such Drop waits, it comes with the parent's present values and ownership, by the Create or
+-- Register and all that waits behind it
+pub record ComesWhole (r : Run) (p : ℕ) (x : ContextId) : Type 0 where
+  pub values : (f : Field) → shown_then p x f (moments_of r.config r.journal)
+      ≡ parent_view r.config x f r.journal
+  pub owner : (before : Bool) → owned_then r.config p x before (moments_of r.config r.journal)
+      ≡ is_owner (facts_now r.config (moments_of r.config r.journal)) p x
+
+abbrev pub WhatComesIsTheParents : Type 0
+WhatComesIsTheParents = (r : Run) (p : ℕ) (x : ContextId) → IsWithout r p x
+    → drop_waits p x (moments_of r.config r.journal) ≡ false → ComesWhole r p x

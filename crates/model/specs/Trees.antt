@@ -1,8 +1,10 @@
--- How the contexts of the tabs that a process has from the start are found in its bundles and in those of the
--- parent: what each bundle makes, brings, drops and hands over.
+-- How contexts are found in the bundles of a process and in those of the parent: what each bundle makes, brings,
+-- drops and hands over.
 use Rattle.std.specs.Prelude.{ℕ, ◌+◌, ◌==◌, Bool, true, false, not, ◌&&◌, ◌||◌, if◌then◌else◌}
 use Rattle.std.specs.Prelude.{List, [], ◌∷◌, ◌++◌}
+use Rattle.std.specs.List.{list_any}
 use Rattle.fission_ids.specs.declared.context.ContextId.{ContextId}
+use Rattle.fission_ids.specs.declared.group.GroupId.{GroupId}
 use Rattle.fission_ids.specs.Ids.{same_context}
 use Rattle.wire_msgs.specs.declared.bundle.DownBundle.{DownBundle}
 use Rattle.wire_msgs.specs.declared.config.Config.{Config}
@@ -10,19 +12,21 @@ use Rattle.wire_msgs.specs.declared.part.DownPart.{DownPart}
 use Rattle.wire_msgs.specs.declared.part.DownPart.TheVariants as downs
 use Rattle.wire_msgs.specs.declared.part.UpPart.{UpPart}
 use Rattle.wire_msgs.specs.declared.part.UpPart.TheVariants as ups
-use Rattle.protocol.specs.Questions.{option_any}
+use Rattle.protocol.specs.Questions.{is_subscribed, option_any}
 use Rattle.protocol.specs.Sayings.{Saying}
 use Rattle.protocol.specs.Sayings.Saying.{Opened, Made, Removed}
-use Rattle.protocol.specs.Start.{is_held_at_start, seen_at_start}
+use Rattle.protocol.specs.ParentActs.{same_group}
+use Rattle.protocol.specs.Start.{facts_at_start, is_held_at_start, is_live, seen_at_start}
 use Rattle.traces.specs.Words.{Stage}
 use Rattle.traces.specs.Words.Stage.{Held, Coming}
 use Rattle.trees.specs.Look.{Effect, Handing, Look, Begin}
 use Rattle.trees.specs.Look.Effect.{Stays, Comes, Goes}
 use Rattle.trees.specs.Look.Handing.{Same, Given}
 use Rattle.trees.specs.Rules.{told_owner}
-use Rattle.model.specs.Lines.{Making, line, above_in, root, is_among}
+use Rattle.model.specs.Lines.{Making, line, above_in, group_in, is_among}
 use Rattle.model.specs.Moments.{Written}
 use Rattle.model.specs.Moments.Written.{Own, Raw, Said}
+use Rattle.model.specs.View.{singles}
 
 -- ---- what comes and goes
 
@@ -88,6 +92,11 @@ abbrev pub written_makes : ContextId → Written → List ContextId
 written_makes y (Own b) = parts_make y b.parts
 written_makes y (Raw b) = parts_make y b.parts
 written_makes y (Said says) = says_make y says
+
+-- whether a part subscribes the process to a group
+abbrev pub registers_group : GroupId → DownPart → Bool
+registers_group g (downs.Register h ks) = same_group g h
+registers_group g part = false
 
 -- those that the parent's parts bring below it
 abbrev pub parts_bring : ContextId → List DownPart → List ContextId
@@ -176,37 +185,31 @@ in_parts names (Said says) = false
 
 -- ---- the look of process p
 
--- whether the context is in a tree that the process has from the start
-abbrev pub is_of_its_tabs : Config → ℕ → List Making → ContextId → Bool
-is_of_its_tabs c p ms x = is_held_at_start c.tabs p (root x ms)
-
 abbrev pub tree_look : Config → ℕ → List Making → Look ContextId Written DownBundle
 tree_look c p ms = record {
-  does = λ x w. if is_of_its_tabs c p ms x then written_does x (line x ms) w else Stays;
-  tells = λ x d. if is_of_its_tabs c p ms x then parts_tell x (line x ms) d.parts else Stays;
+  does = λ x w. written_does x (line x ms) w;
+  tells = λ x d. parts_tell x (line x ms) (singles d.parts);
   above = above_in ms;
   is_own = λ x. x.creator == p + 1;
-  makes = λ y w. if is_of_its_tabs c p ms y then written_makes y w else [];
-  brings = λ y d. if is_of_its_tabs c p ms y then parts_bring y d.parts else [];
-  hands = λ y w. if is_of_its_tabs c p ms y then written_hands p y w else Same;
+  makes = written_makes;
+  brings = λ y d. parts_bring y (singles d.parts);
+  hands = written_hands p;
   handed = λ y d.
-      if is_of_its_tabs c p ms y
-      then handed_unless (parts_tell y (line y ms) d.parts) (parts_handed y d.parts)
-      else Same;
-  creates = λ x w. is_of_its_tabs c p ms x && written_creates x w;
-  needs = λ x w. is_of_its_tabs c p ms x && in_parts (parts_need x) w;
-  drops = λ x w. is_of_its_tabs c p ms x && in_parts (parts_drop x) w;
-  registers = λ d. false;
+      handed_unless (parts_tell y (line y ms) (singles d.parts)) (parts_handed y (singles d.parts));
+  creates = written_creates;
+  needs = λ x w. in_parts (parts_need x) w;
+  drops = λ x w. in_parts (parts_drop x) w;
+  registers = λ x d. option_any (λ g. list_any (registers_group g) d.parts) (group_in c.tabs ms x);
 }
 
--- the stage of a context at the start, on both sides
-abbrev pub stage_at_start : Config → ℕ → ContextId → Stage
-stage_at_start c p x = if is_held_at_start c.tabs p x then Held else Coming
+-- the stage of a context at the start, in the process and in the parent
+abbrev pub held_if : Bool → Stage
+held_if is_there = if is_there then Held else Coming
 
-abbrev pub tree_begin : Config → ℕ → Begin ContextId
-tree_begin c p = record {
-  is_told = true;
-  stage = stage_at_start c p;
-  life = stage_at_start c p;
+abbrev pub tree_begin : Config → ℕ → List Making → Begin ContextId
+tree_begin c p ms = record {
+  is_told = λ x. option_any (is_subscribed (facts_at_start c.tabs) p) (group_in c.tabs ms x);
+  stage = λ x. held_if (is_held_at_start c.tabs p x);
+  life = λ x. held_if (is_live c.tabs x);
   owned = (seen_at_start c.tabs p).owns;
 }

@@ -1,6 +1,7 @@
 -- What each side shows of a field: what a process sees of a journal is told as a trace of that field, and it
 -- shows the view of its trace.
-use Rattle.std.specs.Prelude.{ℕ, Bool, true, false, List, [], ◌∷◌, Option, None, Some, if◌then◌else◌}
+use Rattle.std.specs.Prelude.{ℕ, Bool, true, false, List, [], ◌∷◌, ◌++◌, map, Option, None, Some}
+use Rattle.std.specs.Prelude.{if◌then◌else◌}
 use Rattle.fission_ids.specs.declared.context.ContextId.{ContextId}
 use Rattle.fission_ids.specs.Ids.{same_context}
 use Rattle.field_table.specs.declared.field.Field.{Field}
@@ -12,6 +13,7 @@ use Rattle.wire_msgs.specs.declared.config.Config.{Config}
 use Rattle.wire_msgs.specs.declared.bundle.DownBundle.{DownBundle}
 use Rattle.wire_msgs.specs.declared.part.DownPart.{DownPart}
 use Rattle.wire_msgs.specs.declared.part.DownPart.TheVariants as downs
+use Rattle.wire_msgs.specs.declared.part.Known.{Known}
 use Rattle.wire_msgs.specs.declared.part.UpPart.{UpPart}
 use Rattle.wire_msgs.specs.declared.part.UpPart.TheVariants as ups
 use Rattle.protocol.specs.Fold.{or_later}
@@ -67,6 +69,12 @@ begun v Nothing = Begins v
 begun v (Gives w) = Begins w
 begun v c = c
 
+-- the parts of a bundle, with a context that comes in each in place of those of a group at once
+abbrev pub singles : List DownPart → List DownPart
+singles [] = []
+singles (downs.Register g ks ∷ parts) = map (λ (k : Known). downs.Create k) ks ++ singles parts
+singles (part ∷ parts) = part ∷ singles parts
+
 -- what the parent's parts hold for a field of a context with this line
 abbrev pub content_of : ContextId → List ContextId → Field → List DownPart → Content Value
 content_of x line f [] = Nothing
@@ -82,7 +90,7 @@ content_of x line f (_ ∷ parts) = content_of x line f parts
 abbrev pub look : ContextId → Field → List Making → Look Written DownBundle Value
 look x f ms = record {
   value_in = value_written x f;
-  content_in = λ d. content_of x (line x ms) f d.parts;
+  content_in = λ d. content_of x (line x ms) f (singles d.parts);
 }
 
 -- ---- honest processes

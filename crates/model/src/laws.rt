@@ -3,7 +3,7 @@ ghost use Rattle.model.specs.Laws.{SettlingEnds, StepAddsLittle, RefusedChangesN
 ghost use Rattle.model.specs.Laws.{RevertTakenShowsTheParent, RevertsWait};
 ghost use Rattle.model.specs.Laws.{HonestAreOnlyKilled, EndChangesNothingElse};
 ghost use Rattle.model.specs.Laws.{QuietHoldsTheParents, QuietSaysTheSame, QuietHasTheSameFrames};
-ghost use Rattle.model.specs.Laws.{QuietHasTheSameOrder};
+ghost use Rattle.model.specs.Laws.{QuietHasTheSameOrder, WhatIsToldComes, WhatComesIsTheParents};
 
 /// What an honest process answers of a field is its view: its newest own write not yet answered, else the
 /// parent's value at the process's point; and it answers something exactly of what it holds.
@@ -81,4 +81,16 @@ pub fn quiet_has_the_same_frames()
 /// All its contexts are then the parent's that it is told of, in the same order.
 pub fn quiet_has_the_same_order()
     ensures { QuietHasTheSameOrder }
+{}
+
+/// Where an honest process that wasn't ended doesn't hold a context that is live and that the parent tells it
+/// of, a Create or a Register of that waits for it, or its Drop of that or of a context above waits.
+pub fn what_is_told_comes()
+    ensures { WhatIsToldComes }
+{}
+
+/// Where no such Drop waits, it comes with the parent's present values and ownership, by the Create or Register
+/// and all that waits behind it.
+pub fn what_comes_is_the_parents()
+    ensures { WhatComesIsTheParents }
 {}

@@ -1,6 +1,6 @@
 -- What the parent keeps, and what it answers by it.
 use Rattle.std.specs.Prelude.{◌≡◌, ℕ, ◌<◌, ◌≤◌, ◌==◌, Bool, true, if◌then◌else◌, List, [], ◌∷◌}
-use Rattle.std.specs.Prelude.{length, filter, slice_index_or, ⊤, Option, None, Some, is_some, option_and_then}
+use Rattle.std.specs.Prelude.{length, filter, slice_index_or, Option, None, Some, is_some, option_and_then}
 use Rattle.std.specs.List.{AllByRecursion}
 use Rattle.std.specs.Map.{lookup}
 use Rattle.std.specs.Option.{option_map}
@@ -14,8 +14,6 @@ use Rattle.context_group.specs.Groups.{AreSound, group_at, is_kept}
 use Rattle.context_store.specs.Content.{Content, is_there}
 use Rattle.wire_msgs.specs.Config.{ConfigFits}
 use Rattle.wire_msgs.specs.declared.config.Config.{Config}
-use Rattle.wire_msgs.specs.declared.action.ParentAction.{ParentAction}
-use Rattle.wire_msgs.specs.declared.action.ParentAction.TheVariants.{Set, Tab, Subscribe, Discard, Kill}
 use Rattle.wire_msgs.specs.declared.cause.EndCause.{EndCause}
 use Rattle.protocol.specs.Questions.{Facts, option_any}
 use Rattle.protocol.specs.ParentActs.{same_group}
@@ -157,13 +155,3 @@ pub record HoldsAll (k : Kept) : Type 0 where
   pub processes : length k.processes ≡ length k.config.types
   pub ends : AllByRecursion (λ e. e.process < 16) k.ends
   pub tabs : CountsTabs k.tabs k.origins
-
--- so far the parent writes fields, opens tabs for its n processes, subscribes them, discards contexts, and
--- kills processes
-abbrev pub IsPlayed : ℕ → ParentAction → Type 0
-IsPlayed n (Set x t) = ⊤
-IsPlayed n (Tab p named) = p.0 < n
-IsPlayed n (Subscribe p g) = p.0 < n
-IsPlayed n (Discard x) = ⊤
-IsPlayed n (Kill p) = p.0 < n
-IsPlayed n action = ⊥

@@ -4,7 +4,8 @@ ghost use Rattle.protocol.specs.Sayings.Saying.{Ended};
 ghost use Rattle.protocol.specs.FactsAfter.{facts_after};
 ghost use Rattle.protocol.specs.ParentActs.{action_ruling, refusal};
 ghost use Rattle.protocol.specs.Bundle.{ruling};
-ghost use Rattle.parent_core.specs.Parent.{facts_of, IsPlayed};
+ghost use Rattle.protocol.specs.Played.{IsPlayedByParent};
+ghost use Rattle.parent_core.specs.Parent.{facts_of};
 ghost use Rattle.parent_core.specs.Ruled.{RuledBy, Counts};
 ghost use Rattle.parent_core.specs.Posts.{bundle_parts, end_to};
 
@@ -20,7 +21,7 @@ use wire_msgs::{Answer, DownPart, EndCause, ParentAction, Refusal};
 impl Parent {
     /// The parent acts of its own accord.
     pub fn act(self, action: ParentAction) -> Result<Ruled, OutOfMemory>
-        requires action { IsPlayed (length self.config.types) action }
+        requires action { IsPlayedByParent (length self.config.types) action }
         requires counts { Counts self }
         ensures { IfOk result (λ r. RuledBy self
             (action_ruling (λ f. f) facts_after (length self.config.types) action (facts_of self)) r) }

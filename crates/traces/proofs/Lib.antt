@@ -13,3 +13,4 @@ pub mod Quiet
 pub mod Changed
 pub mod Projection
 pub mod Program
+pub mod Comings

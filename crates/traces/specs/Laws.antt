@@ -8,9 +8,9 @@ use Rattle.traces.specs.Field.{Content, FieldEvent, Trace, Look, bundle_for, tra
 use Rattle.traces.specs.Field.Content.{Gives, Removes, Leaves}
 use Rattle.traces.specs.Words.{Start, value, value_at, stage, newest, base, point, view, while_held, fate}
 use Rattle.traces.specs.Words.{is_answered, stage_served}
-use Rattle.traces.specs.Words.Stage.{Held}
+use Rattle.traces.specs.Words.Stage.{Coming, Held}
 use Rattle.traces.specs.Words.Fate.{Reverted}
-use Rattle.traces.specs.Replay.{replay}
+use Rattle.traces.specs.Replay.{shown_behind, replay}
 use Rattle.traces.specs.Rules.{Keeps, Flows, Rises, Ordered}
 
 -- a process shows the view exactly while it holds the context
@@ -96,3 +96,10 @@ ProjectionKeepsTheRules W B V = (look : Look W B V) (h : List (Event W B)) → F
 abbrev pub StageIsServed : Type 0 → Type 0
 StageIsServed V = (start : Start V) (h : Trace V) → Keeps start h → is_ended h ≡ false →
     bundles_waiting h ≡ [] → stage start.stage h ≡ stage_served start.stage h
+
+-- where a context hasn't come to a process that wasn't ended, or was left by it, and the parent serves it, what
+-- waits to be taken brings it with the parent's value: from nothing, taken one after the other, it shows that
+abbrev pub ComingsBringTheValue : Type 0 → Type 0
+ComingsBringTheValue V = (start : Start V) (h : Trace V) → Keeps start h → is_ended h ≡ false →
+    stage start.stage h ≡ Coming → stage_served start.stage h ≡ Held →
+    shown_behind Coming None (bundles_waiting h) ≡ Some (value start.initial h)

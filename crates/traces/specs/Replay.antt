@@ -2,12 +2,12 @@
 -- to it; it is never told what became of a write. A bundle tells how many of its writes the parent had heard:
 -- where the newest write to the field isn't among them, the field of the bundle is obsolete. As the process
 -- is taken out of the context's group, it forgets the number. What it makes or drops is shown at once.
-use Rattle.std.specs.Prelude.{ℕ, nat_lt, Bool, true, false, Option, None, Some, [], ◌∷◌}
+use Rattle.std.specs.Prelude.{ℕ, nat_lt, Bool, true, false, Option, None, Some, List, [], ◌∷◌}
 use Rattle.traces.specs.Event.{Bundle}
 use Rattle.traces.specs.Event.Event.{Writes, Takes, Does}
 use Rattle.traces.specs.Field.{Content, Trace}
 use Rattle.traces.specs.Field.Content.{Nothing, Gives, Begins, Removes, Leaves}
-use Rattle.traces.specs.Words.{Start, Stage, or_else, while_held, stage, newest}
+use Rattle.traces.specs.Words.{Start, Stage, or_else, while_held, after, stage, newest}
 use Rattle.traces.specs.Words.Stage.{Coming}
 
 -- a bundle's field is obsolete: the parent had not heard the newest write when it sent it
@@ -39,3 +39,8 @@ replay start (Takes d ∷ h) = shown_after_take d.content (is_obsolete (newest h
     (replay start h)
 replay start (Does c ∷ h) = shown_after_take c false (stage start.stage h) (replay start h)
 replay start (_ ∷ h) = replay start h
+
+-- what is shown behind these bundles, taken one after the other, where the process doesn't write the field
+abbrev pub shown_behind : {V : Type 0} → Stage → Option V → List (Bundle (Content V)) → Option V
+shown_behind s shown [] = shown
+shown_behind s shown (d ∷ ds) = shown_behind (after d.content s) (shown_after_take d.content false s shown) ds

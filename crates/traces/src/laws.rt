@@ -1,6 +1,6 @@
 ghost use Rattle.traces.specs.Laws.{ReplayShowsTheView, PointNeverFalls, ChangesBehindThePointWait};
 ghost use Rattle.traces.specs.Laws.{ProjectionKeepsTheRules, QuietShowsTheParent, RevertTakenShowsTheParent};
-ghost use Rattle.traces.specs.Laws.{RevertsWait, StageIsServed};
+ghost use Rattle.traces.specs.Laws.{RevertsWait, StageIsServed, ComingsBringTheValue};
 ghost use Rattle.traces.specs.Runs.{WorkedRuns};
 
 /// A process shows of a field its newest own write not yet answered, else the parent's value at the point;
@@ -34,6 +34,12 @@ pub fn reverts_wait<V>()
 /// serves: held, gone for good, or not there (it had not come, or was left).
 pub fn stage_is_served<V>()
     ensures { StageIsServed V }
+{}
+
+/// Where a context hasn't come to a process that wasn't ended, or was left by it, and the parent serves it, what
+/// waits to be taken brings it with the parent's value.
+pub fn comings_bring_the_value<V>()
+    ensures { ComingsBringTheValue V }
 {}
 
 /// The worked runs keep the rules, and show what they are said to show.

@@ -12,9 +12,9 @@ mod looking;
 pub use epochs::{Epochs, replay};
 pub use events::{Bundle, Content, Event, Stage, Start};
 pub use laws::{
-    changes_behind_the_point_wait, point_never_falls, projection_keeps_the_rules,
-    quiet_shows_the_parent, replay_shows_the_view, revert_taken_shows_the_parent, reverts_wait,
-    stage_is_served, worked_runs,
+    changes_behind_the_point_wait, comings_bring_the_value, point_never_falls,
+    projection_keeps_the_rules, quiet_shows_the_parent, replay_shows_the_view,
+    revert_taken_shows_the_parent, reverts_wait, stage_is_served, worked_runs,
 };
 pub use looking::{Fate, fate_of_write, has_taken, value_at, view};
 

@@ -30,11 +30,11 @@ life_below look begin l x y is (Reverts k w c ∷ h) e = gone_along (look.tells 
 life_below look begin l x y is (_ ∷ h) e = life_below look begin l x y is h e
 
 pub starts_alive : {X W B : Type 0} (look : Look X W B) (begin : Begin X) → Lawful look begin → (y : X) → begin.stage y ≡ Gone → ⊥
-starts_alive look begin l y e = go begin.is_told refl
+starts_alive look begin l y e = go (begin.is_told y) refl
   where
-    go : (b : Bool) → begin.is_told ≡ b → ⊥
-    go true is = l.none_gone y (sym (l.has_live is y) ∙ e)
-    go false is = let new : begin.stage y ≡ Coming = l.has_nothing is y in absurd cc
+    go : (b : Bool) → begin.is_told y ≡ b → ⊥
+    go true is = l.none_gone y (sym (l.has_live y is) ∙ e)
+    go false is = let new : begin.stage y ≡ Coming = l.has_nothing y is in absurd cc
 
 pub joint_below : {X W B : Type 0} (look : Look X W B) (begin : Begin X) → Lawful look begin → (x y : X) → look.above x ≡ Some y → (h : List (Event W B)) →
     joint look begin y h ≡ Gone → joint look begin x h ≡ Gone

@@ -1,5 +1,5 @@
 -- The joint stage of a context against its life in the parent: they are the same but for what waits to be heard.
-use Rattle.std.proofs.Common.{◌≡◌, ℕ, Bool, true, false, Some, List, [], ◌∷◌, ◌++◌, refl, ap, sym, subst, ◌∙◌}
+use Rattle.std.proofs.Common.{◌≡◌, ℕ, Bool, true, false, Some, List, [], ◌∷◌, ◌++◌, refl, ap, sym, subst, ◌∙◌, ap₂, ◌||◌}
 use Rattle.std.specs.Prelude.{◌||◌}
 use Rattle.traces.specs.Event.{Event}
 use Rattle.traces.specs.Event.Event.{Writes, Sends, Accepts, Reverts, Ignores, Changes, Ends}
@@ -8,6 +8,7 @@ use Rattle.traces.specs.Rules.{IsFirst, Flows}
 use Rattle.traces.specs.Words.{Stage}
 use Rattle.traces.specs.Words.Stage.{Coming, Held, Gone}
 use Rattle.traces.proofs.Waits.{write_waits, heard_leaves}
+use Rattle.trees.specs.Laws.{GoingWaits}
 use Rattle.trees.specs.Look.{Effect, moved, Look, Begin}
 use Rattle.trees.specs.Look.Effect.{Stays, Comes, Goes}
 use Rattle.trees.specs.Words.{is_told, stage, life, joint, is_held, Stands}
@@ -85,22 +86,26 @@ starts Held M D alive = tt
 starts Gone M D alive = tt
 
 -- a process that is told of the group wasn't ended
-pub told_runs : {X W B : Type 0} (look : Look X W B) (begin : Begin X) (h : List (Event W B)) → Flows h → is_told look begin h ≡ true → is_ended h ≡ false
-told_runs look begin [] f e = refl
-told_runs look begin (Sends k u c ∷ h) f e = f.0
-told_runs look begin (Ends ∷ h) f e = absurd cc
-told_runs look begin (_ ∷ h) f e = told_runs look begin h f.1 e
+pub told_runs : {X W B : Type 0} (look : Look X W B) (begin : Begin X) (x : X) (h : List (Event W B)) → Flows h → is_told look begin x h ≡ true → is_ended h ≡ false
+told_runs look begin x [] f e = refl
+told_runs look begin x (Sends k u c ∷ h) f e = f.0
+told_runs look begin x (Ends ∷ h) f e = absurd cc
+told_runs look begin x (_ ∷ h) f e = told_runs look begin x h f.1 e
 
 -- M, a making of x that waits to be heard, and D, a drop of x or of what is above it
 abbrev pub MakeWaits : {X W B : Type 0} → Look X W B → X → List (Event W B) → Type 0
 MakeWaits look x h = Stands (look.does x) Comes (writes_waiting h)
 
-abbrev pub DropWaits : {X W B : Type 0} → Look X W B → X → List (Event W B) → Type 0
-DropWaits look x h = Stands (look.does x) Goes (writes_waiting h)
+-- who is told of a context is told of the one above
+pub told_above : {X W B : Type 0} (look : Look X W B) (begin : Begin X) → Lawful look begin → (x y : X) → look.above x ≡ Some y → (h : List (Event W B)) → is_told look begin x h ≡ is_told look begin y h
+told_above look begin l x y is [] = l.told_below x y is
+told_above look begin l x y is (Sends k u c ∷ h) = ap₂ (λ a b. a || b) (l.registers_below x y c is) (told_above look begin l x y is h)
+told_above look begin l x y is (Ends ∷ h) = refl
+told_above look begin l x y is (_ ∷ h) = told_above look begin l x y is h
 
--- all contexts agree
+-- all contexts that the process is told of agree
 abbrev pub AllAgree : {X W B : Type 0} → Look X W B → Begin X → List (Event W B) → Type 0
-AllAgree {X} look begin h = (x : X) → Agrees (joint look begin x h) (life look begin x h) (MakeWaits look x h) (DropWaits look x h)
+AllAgree {X} look begin h = (x : X) → is_told look begin x h ≡ true → Agrees (joint look begin x h) (life look begin x h) (MakeWaits look x h) (GoingWaits look x h)
 
 -- what the process makes isn't discarded, but with the one above, and then it goes in the process too
 makes_alive : {X W B : Type 0} (look : Look X W B) (begin : Begin X) → Lawful look begin → (x : X) (h : List (Event W B)) → Flows h → Fits look begin h → is_ended h ≡ false →
@@ -109,8 +114,8 @@ makes_alive {X} {W} {B} look begin l x h f t runs all m coming gone = go m.below
   where
     below : (y : X) → look.above x ≡ Some y → stage look begin y h ≡ Held → life look begin y h ≡ Gone → (s : Stage) → joint look begin y h ≡ s → ⊥
     below y is held lost Gone same = let too : joint look begin x h ≡ Gone = joint_below look begin l x y is h same in absurd cc
-    below y is held lost Held same = subst (λ q. Agrees Held q (MakeWaits look y h) (DropWaits look y h)) lost
-        (subst (λ q. Agrees q (life look begin y h) (MakeWaits look y h) (DropWaits look y h)) same (all y))
+    below y is held lost Held same = subst (λ q. Agrees Held q (MakeWaits look y h) (GoingWaits look y h)) lost
+        (subst (λ q. Agrees q (life look begin y h) (MakeWaits look y h) (GoingWaits look y h)) same (all y (sym (told_above look begin l x y is h) ∙ m.told)))
     below y is held lost Coming same =
         let new : stage look begin y h ≡ Coming = behind_new (look.tells y) (bundles_waiting h) (stage look begin y h) (leads look begin y h f ∙ same) in absurd cc
 
@@ -120,9 +125,9 @@ makes_alive {X} {W} {B} look begin l x h f t runs all m coming gone = go m.below
         below z too (subst (λ q. stage look begin q h ≡ Held) (cc) held) lost (joint look begin z h) refl
 
 wrote : {X W B : Type 0} (look : Look X W B) (begin : Begin X) → Lawful look begin → (w : W) (h : List (Event W B)) → Flows h → Fits look begin h → is_ended h ≡ false → (x : X) →
-    AllAgree look begin h → (a : Effect) → look.does x w ≡ a → Acts look begin x h a →
+    AllAgree look begin h → is_told look begin x h ≡ true → (a : Effect) → look.does x w ≡ a → Acts look begin x h a →
     Agrees (moved a (joint look begin x h)) (life look begin x h) (Stands (look.does x) Comes (writes_waiting h ++ w ∷ [])) (Stands (look.does x) Goes (writes_waiting h ++ w ∷ []))
-wrote {X} look begin l w h f t runs x all a is acts = go a is acts
+wrote {X} look begin l w h f t runs x all told a is acts = go a is acts
   where
     M : Type 0
     M = Stands (look.does x) Comes (writes_waiting h ++ w ∷ [])
@@ -131,8 +136,8 @@ wrote {X} look begin l w h f t runs x all a is acts = go a is acts
     D = Stands (look.does x) Goes (writes_waiting h ++ w ∷ [])
 
     before : Agrees (joint look begin x h) (life look begin x h) M D
-    before = more (joint look begin x h) (life look begin x h) (MakeWaits look x h) (DropWaits look x h) M D
-        (stands_before (look.does x) Comes (writes_waiting h) (w ∷ [])) (stands_before (look.does x) Goes (writes_waiting h) (w ∷ [])) (all x)
+    before = more (joint look begin x h) (life look begin x h) (MakeWaits look x h) (GoingWaits look x h) M D
+        (stands_before (look.does x) Comes (writes_waiting h) (w ∷ [])) (stands_before (look.does x) Goes (writes_waiting h) (w ∷ [])) (all x told)
 
     go : (a : Effect) → look.does x w ≡ a → Acts look begin x h a → Agrees (moved a (joint look begin x h)) (life look begin x h) M D
     go Stays is acts = before
@@ -140,22 +145,22 @@ wrote {X} look begin l w h f t runs x all a is acts = go a is acts
     go Goes is acts = dropped (life look begin x h) M D (stands_last (look.does x) Goes (writes_waiting h) w is)
 
 sent : {X W B : Type 0} (look : Look X W B) (begin : Begin X) (k : ℕ) (u : W) (c : B) (h : List (Event W B)) (x : X) → Tells look begin (Sends k u c) u c x h →
-    (told_before : Bool) → is_told look begin h ≡ told_before → (registers : Bool) → look.registers c ≡ registers → (registers || told_before) ≡ true →
-    (is_told look begin h ≡ true → Agrees (joint look begin x h) (life look begin x h) (MakeWaits look x h) (DropWaits look x h)) →
-    (is_told look begin h ≡ false → joint look begin x h ≡ Coming) →
-    Agrees (moved (look.tells x c) (joint look begin x h)) (moved (look.does x u) (life look begin x h)) (MakeWaits look x h) (DropWaits look x h)
+    (told_before : Bool) → is_told look begin x h ≡ told_before → (registers : Bool) → look.registers x c ≡ registers → (registers || told_before) ≡ true →
+    (is_told look begin x h ≡ true → Agrees (joint look begin x h) (life look begin x h) (MakeWaits look x h) (GoingWaits look x h)) →
+    (is_told look begin x h ≡ false → joint look begin x h ≡ Coming) →
+    Agrees (moved (look.tells x c) (joint look begin x h)) (moved (look.does x u) (life look begin x h)) (MakeWaits look x h) (GoingWaits look x h)
 sent look begin k u c h x t true was r is e agree new =
-    let as_done : look.tells x c ≡ look.does x u = subst (λ b. Told b (look.registers c) (look.does x u) (look.tells x c) (life look begin x h)) was t.told in
-    rw as_done (both (look.does x u) (joint look begin x h) (life look begin x h) (MakeWaits look x h) (DropWaits look x h) t.done.done.new (agree was))
+    let as_done : look.tells x c ≡ look.does x u = subst (λ b. Told b (look.registers x c) (look.does x u) (look.tells x c) (life look begin x h)) was t.told in
+    rw as_done (both (look.does x u) (joint look begin x h) (life look begin x h) (MakeWaits look x h) (GoingWaits look x h) t.done.done.new (agree was))
 sent look begin k u c h x t false was true is e agree new =
     let whole : look.tells x c ≡ told_whole (moved (look.does x u) (life look begin x h)) =
     subst (λ r. Told false r (look.does x u) (look.tells x c) (life look begin x h)) is
-    (subst (λ b. Told b (look.registers c) (look.does x u) (look.tells x c) (life look begin x h)) was t.told) in
-    rw whole (rw (new was) (comes_whole (moved (look.does x u) (life look begin x h)) (MakeWaits look x h) (DropWaits look x h)))
+    (subst (λ b. Told b (look.registers x c) (look.does x u) (look.tells x c) (life look begin x h)) was t.told) in
+    rw whole (rw (new was) (comes_whole (moved (look.does x u) (life look begin x h)) (MakeWaits look x h) (GoingWaits look x h)))
 sent look begin k u c h x t false was false is e agree new = absurd cc
 
 accepted : {X W B : Type 0} (look : Look X W B) (begin : Begin X) (k : ℕ) (w : W) (h : List (Event W B)) (x : X) (first : IsFirst w (writes_waiting h)) → Done look begin (Accepts k w) w x h →
-    Agrees (joint look begin x h) (life look begin x h) (MakeWaits look x h) (DropWaits look x h) → (a : Effect) → look.does x w ≡ a →
+    Agrees (joint look begin x h) (life look begin x h) (MakeWaits look x h) (GoingWaits look x h) → (a : Effect) → look.does x w ≡ a →
     Agrees (joint look begin x h) (moved a (life look begin x h)) (Stands (look.does x) Comes first.rest) (Stands (look.does x) Goes first.rest)
 accepted look begin k w h x first done g a is = go a is
   where
@@ -166,15 +171,15 @@ accepted look begin k w h x first done g a is = go a is
     rest e other s = stands_rest (look.does x) e w first.rest other (subst (λ ws. Stands (look.does x) e ws) first.is s)
 
     go : (a : Effect) → look.does x w ≡ a → Agrees (joint look begin x h) (moved a (life look begin x h)) (Stands (look.does x) Comes first.rest) (Stands (look.does x) Goes first.rest)
-    go Stays is = more (joint look begin x h) (life look begin x h) (MakeWaits look x h) (DropWaits look x h) (Stands (look.does x) Comes first.rest) (Stands (look.does x) Goes first.rest)
+    go Stays is = more (joint look begin x h) (life look begin x h) (MakeWaits look x h) (GoingWaits look x h) (Stands (look.does x) Comes first.rest) (Stands (look.does x) Goes first.rest)
         (rest Comes (λ e. absurd cc)) (rest Goes (λ e. absurd cc)) g
-    go Comes is = heard_made (joint look begin x h) (life look begin x h) (MakeWaits look x h) (DropWaits look x h) (Stands (look.does x) Comes first.rest) (Stands (look.does x) Goes first.rest)
+    go Comes is = heard_made (joint look begin x h) (life look begin x h) (MakeWaits look x h) (GoingWaits look x h) (Stands (look.does x) Comes first.rest) (Stands (look.does x) Goes first.rest)
         (subst (λ a. moved a (joint look begin x h) ≡ joint look begin x h) is did) (done.new is) (rest Goes (λ e. absurd cc)) g
     go Goes is = heard_dropped (joint look begin x h) (Stands (look.does x) Comes first.rest) (Stands (look.does x) Goes first.rest)
         (subst (λ a. moved a (joint look begin x h) ≡ joint look begin x h) is did)
 
 sent_back : {X W B : Type 0} (look : Look X W B) (begin : Begin X) (w : W) (c : B) (h : List (Event W B)) (x : X) (first : IsFirst w (writes_waiting h)) → GivesBack look begin w c x h →
-    Agrees (joint look begin x h) (life look begin x h) (MakeWaits look x h) (DropWaits look x h) →
+    Agrees (joint look begin x h) (life look begin x h) (MakeWaits look x h) (GoingWaits look x h) →
     Agrees (moved (look.tells x c) (joint look begin x h)) (moved (look.tells x c) (life look begin x h)) (Stands (look.does x) Comes first.rest) (Stands (look.does x) Goes first.rest)
 sent_back look begin w c h x first back g = go (look.does x w) (look.tells x c) refl refl
   where
@@ -187,7 +192,7 @@ sent_back look begin w c h x first back g = go (look.does x w) (look.tells x c) 
     go : (a b : Effect) → look.does x w ≡ a → look.tells x c ≡ b →
         Agrees (moved b (joint look begin x h)) (moved b (life look begin x h)) (Stands (look.does x) Comes first.rest) (Stands (look.does x) Goes first.rest)
     go a Goes isa isb = tt
-    go Stays Stays isa isb = more (joint look begin x h) (life look begin x h) (MakeWaits look x h) (DropWaits look x h) (Stands (look.does x) Comes first.rest) (Stands (look.does x) Goes first.rest)
+    go Stays Stays isa isb = more (joint look begin x h) (life look begin x h) (MakeWaits look x h) (GoingWaits look x h) (Stands (look.does x) Comes first.rest) (Stands (look.does x) Goes first.rest)
         (rest Comes (λ e. absurd cc)) (rest Goes (λ e. absurd cc)) g
     go Stays Comes isa isb = absurd (returned Stays Comes isa isb refl)
     go Comes Stays isa isb = let goes : Stays ≡ Goes = returned Comes Stays isa isb in absurd cc
@@ -196,7 +201,7 @@ sent_back look begin w c h x first back g = go (look.does x w) (look.tells x c) 
     go Goes Comes isa isb = absurd (returned Goes Comes isa isb)
 
 ignored : {X W B : Type 0} (look : Look X W B) (begin : Begin X) (w : W) (h : List (Event W B)) (x : X) (first : IsFirst w (writes_waiting h)) → Ignored (look.does x w) (life look begin x h) →
-    Agrees (joint look begin x h) (life look begin x h) (MakeWaits look x h) (DropWaits look x h) →
+    Agrees (joint look begin x h) (life look begin x h) (MakeWaits look x h) (GoingWaits look x h) →
     Agrees (joint look begin x h) (life look begin x h) (Stands (look.does x) Comes first.rest) (Stands (look.does x) Goes first.rest)
 ignored look begin w h x first i g = go (look.does x w) refl
   where
@@ -207,7 +212,7 @@ ignored look begin w h x first i g = go (look.does x w) refl
     rest e other s = stands_rest (look.does x) e w first.rest other (subst (λ ws. Stands (look.does x) e ws) first.is s)
 
     go : (a : Effect) → look.does x w ≡ a → Agrees (joint look begin x h) (life look begin x h) (Stands (look.does x) Comes first.rest) (Stands (look.does x) Goes first.rest)
-    go Stays is = more (joint look begin x h) (life look begin x h) (MakeWaits look x h) (DropWaits look x h) (Stands (look.does x) Comes first.rest) (Stands (look.does x) Goes first.rest)
+    go Stays is = more (joint look begin x h) (life look begin x h) (MakeWaits look x h) (GoingWaits look x h) (Stands (look.does x) Comes first.rest) (Stands (look.does x) Goes first.rest)
         (rest Comes (λ e. absurd cc)) (rest Goes (λ e. absurd cc)) g
     go Comes is = absurd (subst (λ a. Ignored a (life look begin x h)) is i)
     go Goes is =
@@ -215,27 +220,26 @@ ignored look begin w h x first i g = go (look.does x w) refl
         rw gone (heard_dropped (joint look begin x h) (Stands (look.does x) Comes first.rest) (Stands (look.does x) Goes first.rest)
         (subst (λ a. moved a (joint look begin x h) ≡ joint look begin x h) is did))
 
-pub agrees : {X W B : Type 0} (look : Look X W B) (begin : Begin X) → Lawful look begin → (h : List (Event W B)) → Flows h → Fits look begin h →
-    is_told look begin h ≡ true → AllAgree look begin h
-agrees look begin l [] f t e x = rw (l.has_live e x) (starts (begin.life x) (MakeWaits look x []) (DropWaits look x []) (l.none_gone x))
-agrees look begin l (Writes w ∷ h) f t e x =
+pub agrees : {X W B : Type 0} (look : Look X W B) (begin : Begin X) → Lawful look begin → (h : List (Event W B)) → Flows h → Fits look begin h → AllAgree look begin h
+agrees look begin l [] f t x e = rw (l.has_live x e) (starts (begin.life x) (MakeWaits look x []) (GoingWaits look x []) (l.none_gone x))
+agrees look begin l (Writes w ∷ h) f t x e =
     subst (λ ws. Agrees (moved (look.does x w) (joint look begin x h)) (life look begin x h) (Stands (look.does x) Comes ws) (Stands (look.does x) Goes ws)) (sym (write_waits w h f.1))
-    (wrote look begin l w h f.1 t.1 (told_runs look begin h f.1 e) x (agrees look begin l h f.1 t.1 e) (look.does x w) refl (t.0 (told_runs look begin h f.1 e) x).acts)
-agrees look begin l (Sends k u c ∷ h) f t e x =
-    sent look begin k u c h x (t.0 f.0 x) (is_told look begin h) refl (look.registers c) refl e
-    (λ was. agrees look begin l h f.1 t.1 was x) (λ was. untold look begin l x h f.1 t.1 was f.0)
-agrees look begin l (Accepts k w ∷ h) f t e x =
+    (wrote look begin l w h f.1 t.1 (told_runs look begin x h f.1 e) x (agrees look begin l h f.1 t.1) e (look.does x w) refl (t.0 (told_runs look begin x h f.1 e) x).acts)
+agrees look begin l (Sends k u c ∷ h) f t x e =
+    sent look begin k u c h x (t.0 f.0 x) (is_told look begin x h) refl (look.registers x c) refl e
+    (λ was. agrees look begin l h f.1 t.1 x was) (λ was. untold look begin l x h f.1 t.1 was f.0)
+agrees look begin l (Accepts k w ∷ h) f t x e =
     subst (λ ws. Agrees (joint look begin x h) (moved (look.does x w) (life look begin x h)) (Stands (look.does x) Comes ws) (Stands (look.does x) Goes ws)) (sym (heard_leaves w h f.0))
-    (accepted look begin k w h x f.0 (t.0 (told_runs look begin h f.1 e) x) (agrees look begin l h f.1 t.1 e x) (look.does x w) refl)
-agrees look begin l (Reverts k w c ∷ h) f t e x =
+    (accepted look begin k w h x f.0 (t.0 (told_runs look begin x h f.1 e) x) (agrees look begin l h f.1 t.1 x e) (look.does x w) refl)
+agrees look begin l (Reverts k w c ∷ h) f t x e =
     subst (λ ws. Agrees (moved (look.tells x c) (joint look begin x h)) (moved (look.tells x c) (life look begin x h)) (Stands (look.does x) Comes ws) (Stands (look.does x) Goes ws)) (sym (heard_leaves w h f.0.first))
-    (sent_back look begin w c h x f.0.first (t.0 (told_runs look begin h f.1 e) x) (agrees look begin l h f.1 t.1 e x))
-agrees look begin l (Ignores k w ∷ h) f t e x =
+    (sent_back look begin w c h x f.0.first (t.0 (told_runs look begin x h f.1 e) x) (agrees look begin l h f.1 t.1 x e))
+agrees look begin l (Ignores k w ∷ h) f t x e =
     subst (λ ws. Agrees (joint look begin x h) (life look begin x h) (Stands (look.does x) Comes ws) (Stands (look.does x) Goes ws)) (sym (heard_leaves w h f.0))
-    (ignored look begin w h x f.0 (t.0 (told_runs look begin h f.1 e) x) (agrees look begin l h f.1 t.1 e x))
-agrees look begin l (Changes k u ∷ h) f t e x = rw ((t.0 (told_runs look begin h f.1 e) x).untold e) (agrees look begin l h f.1 t.1 e x)
-agrees look begin l (Ends ∷ h) f t e x = absurd cc
-agrees look begin l (_ ∷ h) f t e x = agrees look begin l h f.1 t.1 e x
+    (ignored look begin w h x f.0 (t.0 (told_runs look begin x h f.1 e) x) (agrees look begin l h f.1 t.1 x e))
+agrees look begin l (Changes k u ∷ h) f t x e = rw ((t.0 (told_runs look begin x h f.1 e) x).untold e) (agrees look begin l h f.1 t.1 x e)
+agrees look begin l (Ends ∷ h) f t x e = absurd cc
+agrees look begin l (_ ∷ h) f t x e = agrees look begin l h f.1 t.1 x e
 
 same_held : (j l : Stage) (M D : Type 0) → (M → ⊥) → (D → ⊥) → Agrees j l M D → is_held j ≡ is_held l
 same_held Coming Coming M D m d g = refl
@@ -248,14 +252,14 @@ same_held Gone Coming M D m d g = refl
 same_held Gone Held M D m d g = absurd (d g)
 same_held Gone Gone M D m d g = refl
 
-pub existence : {X W B : Type 0} (look : Look X W B) (begin : Begin X) (h : List (Event W B)) → Keeps look begin h → is_told look begin h ≡ true →
-    writes_waiting h ≡ [] → bundles_waiting h ≡ [] → (x : X) → is_held (stage look begin x h) ≡ is_held (life look begin x h)
-existence look begin h k e ups downs x =
+pub existence : {X W B : Type 0} (look : Look X W B) (begin : Begin X) (h : List (Event W B)) → Keeps look begin h →
+    writes_waiting h ≡ [] → bundles_waiting h ≡ [] → (x : X) → is_told look begin x h ≡ true → is_held (stage look begin x h) ≡ is_held (life look begin x h)
+existence look begin h k ups downs x e =
     ap is_held (sym (ap (λ ds. stage_behind (look.tells x) ds (stage look begin x h)) downs) ∙ leads look begin x h k.flows)
-    ∙ same_held (joint look begin x h) (life look begin x h) (MakeWaits look x h) (DropWaits look x h)
+    ∙ same_held (joint look begin x h) (life look begin x h) (MakeWaits look x h) (GoingWaits look x h)
     (subst (λ ws. Stands (look.does x) Comes ws → ⊥) (sym ups) (λ s. s)) (subst (λ ws. Stands (look.does x) Goes ws → ⊥) (sym ups) (λ s. s))
-    (agrees look begin k.lawful h k.flows k.fits e x)
+    (agrees look begin k.lawful h k.flows k.fits x e)
 
-pub nothing_held : {X W B : Type 0} (look : Look X W B) (begin : Begin X) (h : List (Event W B)) → Keeps look begin h → is_told look begin h ≡ false → is_ended h ≡ false →
-    (x : X) → stage look begin x h ≡ Coming
-nothing_held look begin h k e runs x = behind_new (look.tells x) (bundles_waiting h) (stage look begin x h) (leads look begin x h k.flows ∙ untold look begin k.lawful x h k.flows k.fits e runs)
+pub nothing_held : {X W B : Type 0} (look : Look X W B) (begin : Begin X) (h : List (Event W B)) → Keeps look begin h → is_ended h ≡ false →
+    (x : X) → is_told look begin x h ≡ false → stage look begin x h ≡ Coming
+nothing_held look begin h k runs x e = behind_new (look.tells x) (bundles_waiting h) (stage look begin x h) (leads look begin x h k.flows ∙ untold look begin k.lawful x h k.flows k.fits e runs)

@@ -8,18 +8,19 @@ use Rattle.traces.specs.Rules.{IsFirst, Flows}
 use Rattle.traces.specs.Words.{Stage}
 use Rattle.traces.specs.Words.Stage.{Coming, Held, Gone}
 use Rattle.traces.proofs.Waits.{sent_waits, taken_leaves}
+use Rattle.trees.specs.Laws.{GoingWaits}
 use Rattle.trees.specs.Look.{Effect, moved, Handing, owned_behind, Look, Begin}
 use Rattle.trees.specs.Look.Effect.{Stays, Comes, Goes}
 use Rattle.trees.specs.Words.{is_told, stage, life, joint, Stands}
-use Rattle.trees.specs.Children.{owned, owns}
+use Rattle.trees.specs.Children.{owned, owns, owner_behind}
 use Rattle.trees.specs.Rules.{Lawful, Acts, HandsOver, Told, Done, Fits, Keeps}
 use Rattle.trees.proofs.Effects.{new_before, live_before, live_unbrought}
 use Rattle.trees.proofs.Joint.{stage_behind, leads, untold}
 use Rattle.trees.proofs.Above.{unmade}
-use Rattle.trees.proofs.Agrees.{Agrees, MakeWaits, DropWaits, agrees}
+use Rattle.trees.proofs.Agrees.{Agrees, MakeWaits, agrees, told_above}
 use Rattle.trees.proofs.Lists.{all_drop, all_push, first_is}
 use Rattle.trees.proofs.Siblings.{one_owner}
-use Rattle.trees.proofs.Owners.{owner_behind, joint_owner, owns_lead, same_owner}
+use Rattle.trees.proofs.Owners.{joint_owner, owns_lead, same_owner}
 use Rattle.trees.proofs.Knowing.{acts_own, all_made_own, none_comes_back, whole_live}
 
 -- whichever of these were taken, where y is owned x isn't held
@@ -104,16 +105,16 @@ none_sent look begin l x y is own (Takes d ∷ h) f t runs new = none_sent look 
 none_sent look begin l x y is own (Sends k u c ∷ h) f t runs new =
     all_push (λ d. look.tells x d.content ≡ Comes → ⊥) (bundles_sent h) (record { entry = k; epoch = hears h; content = c }) (none_sent look begin l x y is own h f.1 t.1 runs new)
     (λ comes. unmade look begin l y own (Sends k u c ∷ h) f t runs new (above_live look begin l x y is (Sends k u c ∷ h) t runs
-    (sent_live (is_told look begin h) (look.registers c) (look.does x u) (look.tells x c) (life look begin x h) (t.0 runs x).told (t.0 runs x).done.done.new comes)))
+    (sent_live (is_told look begin x h) (look.registers x c) (look.does x u) (look.tells x c) (life look begin x h) (t.0 runs x).told (t.0 runs x).done.done.new comes)))
 none_sent look begin l x y is own (Reverts k w c ∷ h) f t runs new =
     all_push (λ d. look.tells x d.content ≡ Comes → ⊥) (bundles_sent h) (record { entry = k; epoch = hears h + 1; content = c }) (none_sent look begin l x y is own h f.1 t.1 runs new)
     (none_comes_back (look.does x w) (look.tells x c) (t.0 runs x).returned)
 none_sent look begin l x y is own (Ends ∷ h) f t runs new = absurd cc
 none_sent look begin l x y is own (_ ∷ h) f t runs new = none_sent look begin l x y is own h f.1 t.1 runs new
 
-starts_unheld : {X W B : Type 0} (look : Look X W B) (begin : Begin X) → Lawful look begin → (x y : X) → look.above x ≡ Some y → (b : Bool) → begin.is_told ≡ b → begin.stage x ≡ Held → ⊥
-starts_unheld look begin l x y is true told held = let same : begin.stage x ≡ begin.life x = l.has_live told x in let new : begin.life x ≡ Coming = l.none_below x y is in absurd cc
-starts_unheld look begin l x y is false told held = let new : begin.stage x ≡ Coming = l.has_nothing told x in absurd cc
+starts_unheld : {X W B : Type 0} (look : Look X W B) (begin : Begin X) → Lawful look begin → (x y : X) → look.above x ≡ Some y → (b : Bool) → begin.is_told x ≡ b → begin.stage x ≡ Held → ⊥
+starts_unheld look begin l x y is true told held = let same : begin.stage x ≡ begin.life x = l.has_live x told in let new : begin.life x ≡ Coming = l.none_below x y is in absurd cc
+starts_unheld look begin l x y is false told held = let new : begin.stage x ≡ Coming = l.has_nothing x told in absurd cc
 
 made_below : {X W B : Type 0} (look : Look X W B) (begin : Begin X) (x y : X) (w : W) (h : List (Event W B)) → look.above x ≡ Some y → stage look begin y h ≡ Coming → Acts look begin x h (look.does x w) → look.does x w ≡ Comes → ⊥
 made_below {X} look begin x y w h is new acts comes = go (acts_own look begin x h (look.does x w) acts comes).below
@@ -125,7 +126,7 @@ made_below {X} look begin x y w h is new acts comes = go (acts_own look begin x 
 
 none_held : {X W B : Type 0} (look : Look X W B) (begin : Begin X) → Lawful look begin → (x y : X) → look.above x ≡ Some y → look.is_own y ≡ true → (h : List (Event W B)) → Flows h → Fits look begin h → is_ended h ≡ false →
     stage look begin y h ≡ Coming → stage look begin x h ≡ Held → ⊥
-none_held look begin l x y is own [] f t runs new = starts_unheld look begin l x y is begin.is_told refl
+none_held look begin l x y is own [] f t runs new = starts_unheld look begin l x y is (begin.is_told x) refl
 none_held look begin l x y is own (Writes w ∷ h) f t runs new =
     unheld_still (look.does x w) (stage look begin x h) (made_below look begin x y w h is (new_before (look.does y w) (stage look begin y h) new) (t.0 runs x).acts)
     (none_held look begin l x y is own h f.1 t.1 runs (new_before (look.does y w) (stage look begin y h) new))
@@ -145,21 +146,21 @@ stands_all does P (w ∷ ws) a (inr s) = stands_all does P ws a.1 s
 
 -- behind all that was sent: where the process owns y, nothing of others is held below
 apart_told : {X W B : Type 0} (look : Look X W B) (begin : Begin X) → Lawful look begin → (x y : X) → look.above x ≡ Some y → look.is_own x ≡ false → (h : List (Event W B)) → Flows h → Fits look begin h →
-    is_told look begin h ≡ true → is_ended h ≡ false → joint_owner look begin y h ≡ true → joint look begin x h ≡ Held → ⊥
-apart_told look begin l x y is other h f t told runs owner held = go (life look begin x h) refl (subst (λ s. Agrees s (life look begin x h) (MakeWaits look x h) (DropWaits look x h)) held (agrees look begin l h f t told x))
+    is_told look begin x h ≡ true → is_ended h ≡ false → joint_owner look begin y h ≡ true → joint look begin x h ≡ Held → ⊥
+apart_told look begin l x y is other h f t told runs owner held = go (life look begin x h) refl (subst (λ s. Agrees s (life look begin x h) (MakeWaits look x h) (GoingWaits look x h)) held (agrees look begin l h f t x told))
   where
-    go : (s : Stage) → life look begin x h ≡ s → Agrees Held (life look begin x h) (MakeWaits look x h) (DropWaits look x h) → ⊥
+    go : (s : Stage) → life look begin x h ≡ s → Agrees Held (life look begin x h) (MakeWaits look x h) (GoingWaits look x h) → ⊥
     go Coming same a =
         let own : look.is_own x ≡ true = stands_all (look.does x) (look.is_own x ≡ true) (writes_waiting h)
         (all_drop (λ w. look.does x w ≡ Comes → look.is_own x ≡ true) (hears h) (writes h) (all_made_own look begin x h t runs))
-        (subst (λ s. Agrees Held s (MakeWaits look x h) (DropWaits look x h)) same a) in absurd cc
+        (subst (λ s. Agrees Held s (MakeWaits look x h) (GoingWaits look x h)) same a) in absurd cc
     go Held same a =
         let owns : look.is_own x ≡ owned look begin y h = one_owner look begin l x y is h t runs same in
-        let too : joint_owner look begin y h ≡ owned look begin y h = same_owner look begin l y h f t told (above_live look begin l x y is h t runs same) in absurd cc
-    go Gone same a = subst (λ s. Agrees Held s (MakeWaits look x h) (DropWaits look x h)) same a
+        let too : joint_owner look begin y h ≡ owned look begin y h = same_owner look begin l y h f t (sym (told_above look begin l x y is h) ∙ told) (above_live look begin l x y is h t runs same) in absurd cc
+    go Gone same a = subst (λ s. Agrees Held s (MakeWaits look x h) (GoingWaits look x h)) same a
 
 apart_joint : {X W B : Type 0} (look : Look X W B) (begin : Begin X) → Lawful look begin → (x y : X) → look.above x ≡ Some y → look.is_own x ≡ false → (h : List (Event W B)) → Flows h → Fits look begin h →
-    is_ended h ≡ false → (b : Bool) → is_told look begin h ≡ b → joint_owner look begin y h ≡ true → joint look begin x h ≡ Held → ⊥
+    is_ended h ≡ false → (b : Bool) → is_told look begin x h ≡ b → joint_owner look begin y h ≡ true → joint look begin x h ≡ Held → ⊥
 apart_joint look begin l x y is other h f t runs true told owner held = apart_told look begin l x y is other h f t told runs owner held
 apart_joint look begin l x y is other h f t runs false told owner held = let new : joint look begin x h ≡ Coming = untold look begin l x h f t told runs in absurd cc
 
@@ -182,7 +183,7 @@ wrote_apart look begin x y h other Stays Comes hand acts above hands before new 
 
 apart : {X W B : Type 0} (look : Look X W B) (begin : Begin X) → Lawful look begin → (x y : X) → look.above x ≡ Some y → look.is_own x ≡ false → (h : List (Event W B)) → Flows h → Fits look begin h →
     is_ended h ≡ false → Apart (look.handed y) (look.tells x) (bundles_waiting h) (owns look begin y h) (stage look begin x h)
-apart look begin l x y is other [] f t runs = λ o. starts_unheld look begin l x y is begin.is_told refl
+apart look begin l x y is other [] f t runs = λ o. starts_unheld look begin l x y is (begin.is_told x) refl
 apart look begin l x y is other (Writes w ∷ h) f t runs =
     wrote_apart look begin x y h other (look.does x w) (look.does y w) (look.hands y w) (t.0 runs x).acts (t.0 runs y).acts (t.0 runs y).hands (apart look begin l x y is other h f.1 t.1 runs)
     (λ own new. apart_unheld (look.handed y) (look.tells x) (bundles_waiting h) true (stage look begin x h)
@@ -190,11 +191,11 @@ apart look begin l x y is other (Writes w ∷ h) f t runs =
 apart look begin l x y is other (Sends k u c ∷ h) f t runs =
     subst (λ ds. Apart (look.handed y) (look.tells x) ds (owns look begin y h) (stage look begin x h)) (sym (sent_waits (record { entry = k; epoch = hears h; content = c }) h f.1))
     (apart_push (look.handed y) (look.tells x) (bundles_waiting h) (record { entry = k; epoch = hears h; content = c }) (owns look begin y h) (stage look begin x h) (apart look begin l x y is other h f.1 t.1 runs)
-    (handed_apart look begin l x y c h f.1 t.1 runs (apart_joint look begin l x y is other (Sends k u c ∷ h) f t runs (is_told look begin (Sends k u c ∷ h)) refl)))
+    (handed_apart look begin l x y c h f.1 t.1 runs (apart_joint look begin l x y is other (Sends k u c ∷ h) f t runs (is_told look begin x (Sends k u c ∷ h)) refl)))
 apart look begin l x y is other (Reverts k w c ∷ h) f t runs =
     subst (λ ds. Apart (look.handed y) (look.tells x) ds (owns look begin y h) (stage look begin x h)) (sym (sent_waits (record { entry = k; epoch = hears h + 1; content = c }) h f.1))
     (apart_push (look.handed y) (look.tells x) (bundles_waiting h) (record { entry = k; epoch = hears h + 1; content = c }) (owns look begin y h) (stage look begin x h) (apart look begin l x y is other h f.1 t.1 runs)
-    (handed_apart look begin l x y c h f.1 t.1 runs (apart_joint look begin l x y is other (Reverts k w c ∷ h) f t runs (is_told look begin h) refl)))
+    (handed_apart look begin l x y c h f.1 t.1 runs (apart_joint look begin l x y is other (Reverts k w c ∷ h) f t runs (is_told look begin x h) refl)))
 apart look begin l x y is other (Takes d ∷ h) f t runs =
     subst (λ ds. Apart (look.handed y) (look.tells x) ds (owned_behind (look.handed y d.content) (owns look begin y h)) (moved (look.tells x d.content) (stage look begin x h))) (sym (taken_leaves d h f.0))
     (rest (subst (λ ds. Apart (look.handed y) (look.tells x) ds (owns look begin y h) (stage look begin x h)) f.0.is (apart look begin l x y is other h f.1 t.1 runs)))

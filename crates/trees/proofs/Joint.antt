@@ -91,19 +91,19 @@ told_nothing true b did told l e t = absurd cc
 told_nothing false true did told l e t = absurd cc
 told_nothing false false did told l e t = t
 
-acts_nothing : {X W B : Type 0} (look : Look X W B) (begin : Begin X) (x : X) (h : List (Event W B)) (a : Effect) → is_told look begin h ≡ false → Acts look begin x h a → a ≡ Stays
+acts_nothing : {X W B : Type 0} (look : Look X W B) (begin : Begin X) (x : X) (h : List (Event W B)) (a : Effect) → is_told look begin x h ≡ false → Acts look begin x h a → a ≡ Stays
 acts_nothing look begin x h Stays e i = refl
-acts_nothing look begin x h Comes e i = let told : is_told look begin h ≡ true = i.told in absurd cc
+acts_nothing look begin x h Comes e i = let told : is_told look begin x h ≡ true = i.told in absurd cc
 acts_nothing look begin x h Goes e i = absurd cc
 
 -- who isn't told of the group has done and was sent nothing of it
 pub untold : {X W B : Type 0} (look : Look X W B) (begin : Begin X) → Lawful look begin → (x : X) (h : List (Event W B)) → Flows h → Fits look begin h →
-    is_told look begin h ≡ false → is_ended h ≡ false → joint look begin x h ≡ Coming
-untold look begin l x [] f t e runs = l.has_nothing e x
+    is_told look begin x h ≡ false → is_ended h ≡ false → joint look begin x h ≡ Coming
+untold look begin l x [] f t e runs = l.has_nothing x e
 untold look begin l x (Writes w ∷ h) f t e runs = rw (acts_nothing look begin x h (look.does x w) e (t.0 runs x).acts) (untold look begin l x h f.1 t.1 e runs)
 untold look begin l x (Sends k u c ∷ h) f t e runs =
-    let was : is_told look begin h ≡ false = false_right (look.registers c) (is_told look begin h) e in
-    rw (told_nothing (look.registers c) (is_told look begin h) (look.does x u) (look.tells x c) (life look begin x h) e (t.0 f.0 x).told) (untold look begin l x h f.1 t.1 was f.0)
+    let was : is_told look begin x h ≡ false = false_right (look.registers x c) (is_told look begin x h) e in
+    rw (told_nothing (look.registers x c) (is_told look begin x h) (look.does x u) (look.tells x c) (life look begin x h) e (t.0 f.0 x).told) (untold look begin l x h f.1 t.1 was f.0)
 untold look begin l x (Reverts k w c ∷ h) f t e runs = rw ((t.0 runs x).untold e) (untold look begin l x h f.1 t.1 e runs)
 untold look begin l x (Ends ∷ h) f t e runs = absurd cc
 untold look begin l x (_ ∷ h) f t e runs = untold look begin l x h f.1 t.1 e runs

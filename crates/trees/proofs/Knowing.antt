@@ -234,7 +234,7 @@ all_brought look begin x [] f t runs = tt
 all_brought look begin x (Sends k u c ∷ h) f t runs =
     all_push (BringsKnown look x (look.creates x u || is_known look begin x h)) (bundles_sent h) (record { entry = k; epoch = hears h; content = c })
     (brings_more look x (look.creates x u) (is_known look begin x h) (bundles_sent h) (all_brought look begin x h f.1 t.1 runs))
-    (sent_known (is_told look begin h) (look.registers c) (look.does x u) (look.tells x c) (life look begin x h) (look.creates x u || is_known look begin x h) (t.0 runs x).told
+    (sent_known (is_told look begin x h) (look.registers x c) (look.does x u) (look.tells x c) (life look begin x h) (look.creates x u || is_known look begin x h) (t.0 runs x).told
     (λ comes. true_left (look.creates x u) (is_known look begin x h) ((t.0 runs x).done.creates comes)) (live_known look begin x (Sends k u c ∷ h) f t runs))
 all_brought look begin x (Changes k u ∷ h) f t runs = brings_more look x (look.creates x u) (is_known look begin x h) (bundles_sent h) (all_brought look begin x h f.1 t.1 runs)
 all_brought look begin x (Accepts k w ∷ h) f t runs = brings_more look x (look.creates x w) (is_known look begin x h) (bundles_sent h) (all_brought look begin x h f.1 t.1 runs)
@@ -277,12 +277,12 @@ took_found : {X W B : Type 0} (look : Look X W B) (begin : Begin X) (x : X) (d :
 took_found look begin x d h before brought (inl held) = before held
 took_found look begin x d h before brought (inr comes) = inl (brought comes)
 
-starts_found : {X W B : Type 0} (look : Look X W B) (begin : Begin X) → Lawful look begin → (x : X) → (b : Bool) → begin.is_told ≡ b → begin.stage x ≡ Held → is_held (begin.life x) ≡ true
-starts_found look begin l x true told held = ap is_held (sym (l.has_live told x) ∙ held)
-starts_found look begin l x false told held = let new : begin.stage x ≡ Coming = l.has_nothing told x in absurd cc
+starts_found : {X W B : Type 0} (look : Look X W B) (begin : Begin X) → Lawful look begin → (x : X) → (b : Bool) → begin.is_told x ≡ b → begin.stage x ≡ Held → is_held (begin.life x) ≡ true
+starts_found look begin l x true told held = ap is_held (sym (l.has_live x told) ∙ held)
+starts_found look begin l x false told held = let new : begin.stage x ≡ Coming = l.has_nothing x told in absurd cc
 
 held_found : {X W B : Type 0} (look : Look X W B) (begin : Begin X) → Lawful look begin → (x : X) (h : List (Event W B)) → Flows h → Fits look begin h → is_ended h ≡ false → stage look begin x h ≡ Held → IsFound look begin x h
-held_found look begin l x [] f t runs held = inl (starts_found look begin l x begin.is_told refl held)
+held_found look begin l x [] f t runs held = inl (starts_found look begin l x (begin.is_told x) refl held)
 held_found look begin l x (Writes w ∷ h) f t runs held = wrote_found look begin x w h f.1 (held_found look begin l x h f.1 t.1 runs) (live_before (look.does x w) (stage look begin x h) held)
 held_found look begin l x (Takes d ∷ h) f t runs held =
     took_found look begin x d h (held_found look begin l x h f.1 t.1 runs)

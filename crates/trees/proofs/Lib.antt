@@ -10,3 +10,4 @@ pub mod Knowing
 pub mod Dropping
 pub mod Runs
 pub mod Taking
+pub mod Comings

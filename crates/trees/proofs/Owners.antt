@@ -14,17 +14,12 @@ use Rattle.trees.specs.Look.{Effect, moved, Handing, owned_behind, Look, Begin}
 use Rattle.trees.specs.Look.Effect.{Stays, Comes, Goes}
 use Rattle.trees.specs.Look.Handing.{Same, Given, Taken}
 use Rattle.trees.specs.Words.{is_told, stage, life, is_held, Stands}
-use Rattle.trees.specs.Children.{owned, owns}
+use Rattle.trees.specs.Children.{owned, owns, owner_behind}
 use Rattle.trees.specs.Rules.{Lawful, Acts, HandsOver, Handed, told_owner, Fits, Keeps}
 use Rattle.trees.proofs.Effects.{new_before, held_is, live_unbrought}
 use Rattle.trees.proofs.Above.{unmade}
 use Rattle.trees.proofs.Agrees.{told_runs, existence}
 use Rattle.trees.proofs.Lists.{all_drop, all_push, first_is}
-
--- who owns it behind these bundles
-abbrev pub owner_behind : {B : Type 0} → (B → Handing) → List (Bundle B) → Bool → Bool
-owner_behind handed [] b = b
-owner_behind handed (d ∷ ds) b = owner_behind handed ds (owned_behind (handed d.content) b)
 
 pub owner_push : {B : Type 0} (handed : B → Handing) (ds : List (Bundle B)) (d : Bundle B) (b : Bool) → owner_behind handed (ds ++ d ∷ []) b ≡ owned_behind (handed d.content) (owner_behind handed ds b)
 owner_push handed [] d b = refl
@@ -151,7 +146,7 @@ live_unmade Stays s other e = e
 live_unmade Comes s other e = absurd (other refl)
 live_unmade Goes s other e = absurd cc
 
-made_now : (b : Handing) (p q : Bool) → (b ≡ Same → ⊥) → owned_behind b p ≡ owned_behind b q
+pub made_now : (b : Handing) (p q : Bool) → (b ≡ Same → ⊥) → owned_behind b p ≡ owned_behind b q
 made_now Same p q has = absurd (has refl)
 made_now Given p q has = refl
 made_now Taken p q has = refl
@@ -175,36 +170,36 @@ accepted_owner Stays s b p q live hands made before = rw hands (before live)
 accepted_owner Comes s b p q live hands made before = rw hands (made refl)
 accepted_owner Goes s b p q live hands made before = absurd cc
 
-pub same_owner : {X W B : Type 0} (look : Look X W B) (begin : Begin X) → Lawful look begin → (y : X) (h : List (Event W B)) → Flows h → Fits look begin h → is_told look begin h ≡ true →
+pub same_owner : {X W B : Type 0} (look : Look X W B) (begin : Begin X) → Lawful look begin → (y : X) (h : List (Event W B)) → Flows h → Fits look begin h → is_told look begin y h ≡ true →
     life look begin y h ≡ Held → joint_owner look begin y h ≡ owned look begin y h
 same_owner look begin l y [] f t e live = refl
-same_owner look begin l y (Writes w ∷ h) f t e live = wrote (look.does y w) (look.hands y w) (t.0 (told_runs look begin h f.1 e) y).acts (t.0 (told_runs look begin h f.1 e) y).hands (same_owner look begin l y h f.1 t.1 e live)
+same_owner look begin l y (Writes w ∷ h) f t e live = wrote (look.does y w) (look.hands y w) (t.0 (told_runs look begin y h f.1 e) y).acts (t.0 (told_runs look begin y h f.1 e) y).hands (same_owner look begin l y h f.1 t.1 e live)
   where
     wrote : (a : Effect) (b : Handing) → Acts look begin y h a → HandsOver a b → joint_owner look begin y h ≡ owned look begin y h → owned_behind b (joint_owner look begin y h) ≡ owned look begin y h
     wrote Stays b acts hands before = rw hands before
     wrote Goes b acts hands before = rw hands before
-    wrote Comes b acts hands before = absurd (unmade look begin l y acts.own h f.1 t.1 (told_runs look begin h f.1 e) acts.new live)
+    wrote Comes b acts hands before = absurd (unmade look begin l y acts.own h f.1 t.1 (told_runs look begin y h f.1 e) acts.new live)
 same_owner look begin l y (Sends k u c ∷ h) f t e live =
-    handed_on (is_told look begin h) (look.registers c) e (look.does y u) (life look begin y h) (look.hands y u) (look.handed y c) (joint_owner look begin y h) (owned look begin y h) live
+    handed_on (is_told look begin y h) (look.registers y c) e (look.does y u) (life look begin y h) (look.hands y u) (look.handed y c) (joint_owner look begin y h) (owned look begin y h) live
     ((t.0 f.0 y).handed live) (t.0 f.0 y).done.owned (same_owner look begin l y h f.1 t.1)
 same_owner look begin l y (Accepts k w ∷ h) f t e live =
-    let runs : is_ended h ≡ false = told_runs look begin h f.1 e in
+    let runs : is_ended h ≡ false = told_runs look begin y h f.1 e in
     accepted_owner (look.does y w) (life look begin y h) (look.hands y w) (joint_owner look begin y h) (owned look begin y h) live
     (first_is (λ w. HandsOver (look.does y w) (look.hands y w)) (hears h) (writes h) w f.0 (all_hand look begin y h t.1 runs))
     (λ comes. made_owned look begin y h t.1 runs (first_stands (look.does y) Comes w h f.0 comes) ((t.0 runs y).new comes)) (same_owner look begin l y h f.1 t.1 e)
 same_owner look begin l y (Reverts k w c ∷ h) f t e live =
-    let runs : is_ended h ≡ false = told_runs look begin h f.1 e in
+    let runs : is_ended h ≡ false = told_runs look begin y h f.1 e in
     ap (λ q. owned_behind q (joint_owner look begin y h)) (t.0 runs y).hands_none
     ∙ same_owner look begin l y h f.1 t.1 e (live_unbrought (look.does y w) (look.tells y c) (life look begin y h) (t.0 runs y).returned live)
 same_owner look begin l y (Changes k u ∷ h) f t e live =
-    let runs : is_ended h ≡ false = told_runs look begin h f.1 e in
+    let runs : is_ended h ≡ false = told_runs look begin y h f.1 e in
     same_owner look begin l y h f.1 t.1 e (subst (λ a. moved a (life look begin y h) ≡ Held) ((t.0 runs y).untold e) live)
     ∙ sym (ap (λ q. owned_behind q (owned look begin y h)) ((t.0 runs y).hands_none e live))
 same_owner look begin l y (Ends ∷ h) f t e live = absurd cc
 same_owner look begin l y (_ ∷ h) f t e live = same_owner look begin l y h f.1 t.1 e live
 
-pub owners : {X W B : Type 0} (look : Look X W B) (begin : Begin X) (h : List (Event W B)) → Keeps look begin h → is_told look begin h ≡ true → writes_waiting h ≡ [] → bundles_waiting h ≡ [] →
-    (x : X) → is_held (stage look begin x h) ≡ true → owns look begin x h ≡ owned look begin x h
-owners look begin h k e ups downs x held =
-    sym (ap (λ ds. owner_behind (look.handed x) ds (owns look begin x h)) downs) ∙ owns_lead look begin k.lawful x h k.flows k.fits (told_runs look begin h k.flows e)
-    ∙ same_owner look begin k.lawful x h k.flows k.fits e (held_is (life look begin x h) (sym (existence look begin h k e ups downs x) ∙ held))
+pub owners : {X W B : Type 0} (look : Look X W B) (begin : Begin X) (h : List (Event W B)) → Keeps look begin h → writes_waiting h ≡ [] → bundles_waiting h ≡ [] →
+    (x : X) → is_told look begin x h ≡ true → is_held (stage look begin x h) ≡ true → owns look begin x h ≡ owned look begin x h
+owners look begin h k ups downs x e held =
+    sym (ap (λ ds. owner_behind (look.handed x) ds (owns look begin x h)) downs) ∙ owns_lead look begin k.lawful x h k.flows k.fits (told_runs look begin x h k.flows e)
+    ∙ same_owner look begin k.lawful x h k.flows k.fits e (held_is (life look begin x h) (sym (existence look begin h k ups downs x e) ∙ held))

@@ -87,7 +87,7 @@ all_others look begin y (_ ∷ h) t runs = all_others look begin y h t.1 runs
 pub own_write : {X W B : Type 0} (look : Look X W B) (begin : Begin X) (y : X) (w : W) (h : List (Event W B)) → Fits look begin h → is_ended h ≡ false → IsFirst w (writes_waiting h) → MadeOwn look y w
 own_write look begin y w h t runs first = first_is (MadeOwn look y) (hears h) (writes h) w first (all_own look begin y h t runs)
 
-others_bundle : {X W B : Type 0} (look : Look X W B) (begin : Begin X) (y : X) (d : Bundle B) (h : List (Event W B)) → Fits look begin h → is_ended h ≡ false → IsFirst d (bundles_waiting h) → BroughtOthers look y d
+pub others_bundle : {X W B : Type 0} (look : Look X W B) (begin : Begin X) (y : X) (d : Bundle B) (h : List (Event W B)) → Fits look begin h → is_ended h ≡ false → IsFirst d (bundles_waiting h) → BroughtOthers look y d
 others_bundle look begin y d h t runs first = first_is (BroughtOthers look y) (takes h) (bundles_sent h) d first (all_others look begin y h t runs)
 
 -- a test that passes, of the children of y, only own ones, or only those of others

@@ -1,6 +1,6 @@
 -- A coming that waits: where the process hasn't the context yet, it has the one above by then, and where it
 -- dropped it unseen, it hasn't.
-use Rattle.std.proofs.Common.{◌≡◌, ℕ, ◌+◌, ◌⊎◌, inl, inr, Bool, true, false, Some, List, [], ◌∷◌, ◌++◌, refl, ap, sym, subst, ◌∙◌}
+use Rattle.std.proofs.Common.{◌≡◌, ℕ, ◌+◌, ◌⊎◌, inl, inr, Bool, true, false, Option, None, Some, List, [], ◌∷◌, ◌++◌, refl, ap, sym, subst, ◌∙◌}
 use Rattle.std.specs.Prelude.{◌||◌}
 use Rattle.std.specs.List.{AllByRecursion}
 use Rattle.traces.specs.Event.{Bundle, Event}
@@ -10,6 +10,7 @@ use Rattle.traces.specs.Rules.{IsFirst, Flows}
 use Rattle.traces.specs.Words.{Stage}
 use Rattle.traces.specs.Words.Stage.{Coming, Held, Gone}
 use Rattle.traces.proofs.Waits.{sent_waits, taken_leaves}
+use Rattle.trees.specs.Laws.{GoingWaits}
 use Rattle.trees.specs.Look.{Effect, moved, Look, Begin}
 use Rattle.trees.specs.Look.Effect.{Stays, Comes, Goes}
 use Rattle.trees.specs.Words.{is_told, stage, life, joint, is_held, is_known}
@@ -17,7 +18,7 @@ use Rattle.trees.specs.Rules.{Lawful, Above, Acts, Told, told_whole, Returned, I
 use Rattle.trees.proofs.Effects.{new_before, live_before, gone_before, gone_behind}
 use Rattle.trees.proofs.Joint.{stage_behind, leads, behind_new, untold}
 use Rattle.trees.proofs.Above.{joint_below, starts_alive}
-use Rattle.trees.proofs.Agrees.{Agrees, MakeWaits, DropWaits, agrees}
+use Rattle.trees.proofs.Agrees.{Agrees, MakeWaits, agrees, told_above}
 use Rattle.trees.proofs.Lists.{all_drop, all_push}
 use Rattle.trees.proofs.Knowing.{none_comes_back}
 use Rattle.trees.proofs.Dropping.{above_live, sent_live, none_sent}
@@ -98,7 +99,7 @@ still_same : {B : Type 0} (lower : B → Effect) (ds : List (Bundle B)) (s : Sta
 still_same lower [] s still = refl
 still_same lower (d ∷ ds) s still = ap (λ a. stage_behind lower ds (moved a s)) still.0 ∙ still_same lower ds s still.1
 
-gone_lead : {B : Type 0} (upper : B → Effect) (ds : List (Bundle B)) → stage_behind upper ds Gone ≡ Gone
+pub gone_lead : {B : Type 0} (upper : B → Effect) (ds : List (Bundle B)) → stage_behind upper ds Gone ≡ Gone
 gone_lead upper [] = refl
 gone_lead upper (d ∷ ds) = ap (stage_behind upper ds) (gone_stays (upper d.content)) ∙ gone_lead upper ds
 
@@ -133,7 +134,7 @@ module _ {X W B : Type 0} (look : Look X W B) (begin : Begin X) (l : Lawful look
   still_sent [] t runs new = tt
   still_sent (Sends k u c ∷ h) t runs new =
       all_push (λ d. look.tells x d.content ≡ Stays) (bundles_sent h) (record { entry = k; epoch = hears h; content = c }) (still_sent h t.1 runs (new_before (look.does x u) (life look begin x h) new))
-      (told_still (is_told look begin h) (look.registers c) (look.does x u) (look.tells x c) (life look begin x h) (t.0 runs x).told new)
+      (told_still (is_told look begin x h) (look.registers x c) (look.does x u) (look.tells x c) (life look begin x h) (t.0 runs x).told new)
   still_sent (Reverts k w c ∷ h) t runs new =
       all_push (λ d. look.tells x d.content ≡ Stays) (bundles_sent h) (record { entry = k; epoch = hears h + 1; content = c }) (still_sent h t.1 runs (new_before (look.tells x c) (life look begin x h) new))
       (stays_only (look.tells x c) (life look begin x h) new)
@@ -147,9 +148,9 @@ module _ {X W B : Type 0} (look : Look X W B) (begin : Begin X) (l : Lawful look
 
   -- as it comes, nothing that waits does anything to it
   still_before : (k : _) (u : W) (c : B) (h : List (Event W B)) → Flows (Sends k u c ∷ h) → Fits look begin (Sends k u c ∷ h) → look.tells x c ≡ Comes → AllStay (look.tells x) (bundles_waiting h)
-  still_before k u c h f t comes = go (is_told look begin h) refl (told_new (is_told look begin h) (look.registers c) (look.does x u) (look.tells x c) (life look begin x h) (t.0 f.0 x).told (t.0 f.0 x).done.done.new comes)
+  still_before k u c h f t comes = go (is_told look begin x h) refl (told_new (is_told look begin x h) (look.registers x c) (look.does x u) (look.tells x c) (life look begin x h) (t.0 f.0 x).told (t.0 f.0 x).done.done.new comes)
     where
-      go : (b : Bool) → is_told look begin h ≡ b → (is_told look begin h ≡ true → life look begin x h ≡ Coming) × ((look.registers c || is_told look begin h) ≡ true) → AllStay (look.tells x) (bundles_waiting h)
+      go : (b : Bool) → is_told look begin x h ≡ b → (is_told look begin x h ≡ true → life look begin x h ≡ Coming) × ((look.registers x c || is_told look begin x h) ≡ true) → AllStay (look.tells x) (bundles_waiting h)
       go true was n = still_waiting h t.1 f.0 (n.0 was)
       go false was n = still_lead (look.tells x) (bundles_waiting h) (stage look begin x h) (leads look begin x h f.1 ∙ untold look begin l x h f.1 t.1 was f.0)
 
@@ -182,11 +183,11 @@ module _ {X W B : Type 0} (look : Look X W B) (begin : Begin X) (l : Lawful look
 
     -- the process holds nothing that the parent doesn't know, but what it made
     unheld_new : (h : List (Event W B)) → Flows h → Fits look begin h → is_ended h ≡ false → life look begin x h ≡ Coming → stage look begin x h ≡ Held → ⊥
-    unheld_new [] f t runs new held = go begin.is_told refl
+    unheld_new [] f t runs new held = go (begin.is_told x) refl
       where
-        go : (b : Bool) → begin.is_told ≡ b → ⊥
-        go true is = let same : begin.stage x ≡ begin.life x = l.has_live is x in absurd cc
-        go false is = let nothing : begin.stage x ≡ Coming = l.has_nothing is x in absurd cc
+        go : (b : Bool) → begin.is_told x ≡ b → ⊥
+        go true is = let same : begin.stage x ≡ begin.life x = l.has_live x is in absurd cc
+        go false is = let nothing : begin.stage x ≡ Coming = l.has_nothing x is in absurd cc
     unheld_new (Writes w ∷ h) f t runs new held = by_write (look.does x w) (stage look begin x h) (live_before (look.does x w) (stage look begin x h) held) (unheld_new h f.1 t.1 runs new) (made_by_itself h (look.does x w) (t.0 runs x).acts)
       where
         by_write : (a : Effect) (s : Stage) → (s ≡ Held) ⊎ (a ≡ Comes) → (s ≡ Held → ⊥) → (a ≡ Comes → ⊥) → ⊥
@@ -208,9 +209,9 @@ module _ {X W B : Type 0} (look : Look X W B) (begin : Begin X) (l : Lawful look
     -- as it comes, the process doesn't have it, and if it dropped it the parent doesn't know it yet
     comes_new : (k : ℕ) (u : W) (c : B) (h : List (Event W B)) → Flows (Sends k u c ∷ h) → Fits look begin (Sends k u c ∷ h) → look.tells x c ≡ Comes
         → (stage look begin x h ≡ Held → ⊥) × (stage look begin x h ≡ Gone → life look begin x h ≡ Coming)
-    comes_new k u c h f t comes = go (is_told look begin h) refl (told_new (is_told look begin h) (look.registers c) (look.does x u) (look.tells x c) (life look begin x h) (t.0 f.0 x).told (t.0 f.0 x).done.done.new comes)
+    comes_new k u c h f t comes = go (is_told look begin x h) refl (told_new (is_told look begin x h) (look.registers x c) (look.does x u) (look.tells x c) (life look begin x h) (t.0 f.0 x).told (t.0 f.0 x).done.done.new comes)
       where
-        go : (b : Bool) → is_told look begin h ≡ b → (is_told look begin h ≡ true → life look begin x h ≡ Coming) × ((look.registers c || is_told look begin h) ≡ true)
+        go : (b : Bool) → is_told look begin x h ≡ b → (is_told look begin x h ≡ true → life look begin x h ≡ Coming) × ((look.registers x c || is_told look begin x h) ≡ true)
             → (stage look begin x h ≡ Held → ⊥) × (stage look begin x h ≡ Gone → life look begin x h ≡ Coming)
         go true was n = (unheld_new h f.1 t.1 f.0 (n.0 was), (λ gone. n.0 was))
         go false was n =
@@ -246,6 +247,73 @@ module _ {X W B : Type 0} (look : Look X W B) (begin : Begin X) (l : Lawful look
         (all_push (λ d. look.tells x d.content ≡ Comes → ⊥) (bundles_waiting h) (record { entry = k; epoch = hears h + 1; content = c }) (none_waits h f.1 t.1 runs held) (none_comes_back (look.does x w) (look.tells x c) (t.0 runs x).returned))
     none_waits (Ends ∷ h) f t runs held = absurd cc
     none_waits (_ ∷ h) f t runs held = none_waits h f.1 t.1 runs held
+
+    module _ (top : look.above x ≡ None) where
+      never_above : {A : Type 0} {P : X → Type 0} → Above look x P → A
+      never_above (z, too, holds) = let two : ◌≡◌ {A = Option X} None (Some z) = sym top ∙ too in absurd cc
+
+      abbrev Lost : List (Event W B) → Type 0
+      Lost h = (life look begin x h ≡ Coming → ⊥) × NoneComes (look.tells x) (bundles_waiting h)
+
+      -- a top-level one that is gone in the process is known to the parent, and no coming of it waits
+      lost : (h : List (Event W B)) → Flows h → Fits look begin h → is_ended h ≡ false → stage look begin x h ≡ Gone → Lost h
+      lost [] f t runs gone = absurd (starts_alive look begin l x gone)
+      lost (Writes w ∷ h) f t runs gone = by_write (gone_before (look.does x w) (stage look begin x h) gone) (lost h f.1 t.1 runs)
+        where
+          dropped : (look.drops x w ≡ true) ⊎ Above look x (λ y. look.does y w ≡ Goes) → Lost (Writes w ∷ h)
+          dropped (inl drops) = let held : stage look begin x h ≡ Held = (t.0 runs x).drops drops in ((λ new. unheld_new h f.1 t.1 runs new held), none_waits h f.1 t.1 runs held)
+          dropped (inr above) = never_above above
+
+          by_write : (stage look begin x h ≡ Gone) ⊎ (look.does x w ≡ Goes) → (stage look begin x h ≡ Gone → Lost h) → Lost (Writes w ∷ h)
+          by_write (inl was) before = before was
+          by_write (inr goes) before = dropped ((t.0 runs x).goes goes)
+      lost (Takes d ∷ h) f t runs gone = by_take (gone_before (look.tells x d.content) (stage look begin x h) gone) (lost h f.1 t.1 runs)
+        where
+          tail : NoneComes (look.tells x) (d ∷ f.0.rest) → NoneComes (look.tells x) f.0.rest
+          tail (first, rest) = rest
+
+          first_moves : OnceMoved (look.tells x) (d ∷ f.0.rest) → (look.tells x d.content ≡ Stays → ⊥) → NoneComes (look.tells x) f.0.rest
+          first_moves (first, rest) = first
+
+          back : NoneComes (look.tells x) f.0.rest → NoneComes (look.tells x) (bundles_waiting (Takes d ∷ h))
+          back = subst (NoneComes (look.tells x)) (sym (taken_leaves d h f.0))
+
+          by_take : (stage look begin x h ≡ Gone) ⊎ (look.tells x d.content ≡ Goes) → (stage look begin x h ≡ Gone → Lost h) → Lost (Takes d ∷ h)
+          by_take (inl was) before = let b : Lost h = before was in (b.0, back (tail (subst (NoneComes (look.tells x)) f.0.is b.1)))
+          by_take (inr goes) before = (
+            (λ new. let two : Stays ≡ Goes = sym (first_stays d h f.0 (still_waiting h t.1 runs new)) ∙ goes in absurd cc),
+            back (first_moves (subst (OnceMoved (look.tells x)) f.0.is (once h f.1 t.1 runs)) (λ stays. let two : Stays ≡ Goes = sym stays ∙ goes in absurd cc)),
+          )
+      lost (Sends k u c ∷ h) f t runs gone =
+          let b : Lost h = lost h f.1 t.1 runs gone in (
+            (λ new. b.0 (new_before (look.does x u) (life look begin x h) new)),
+            subst (NoneComes (look.tells x)) (sym (sent_waits (record { entry = k; epoch = hears h; content = c }) h f.1))
+                (all_push (λ d. look.tells x d.content ≡ Comes → ⊥) (bundles_waiting h) (record { entry = k; epoch = hears h; content = c }) b.1 (λ comes. b.0 ((comes_new k u c h f t comes).1 gone))),
+          )
+      lost (Reverts k w c ∷ h) f t runs gone =
+          let b : Lost h = lost h f.1 t.1 runs gone in (
+            (λ new. b.0 (new_before (look.tells x c) (life look begin x h) new)),
+            subst (NoneComes (look.tells x)) (sym (sent_waits (record { entry = k; epoch = hears h + 1; content = c }) h f.1))
+                (all_push (λ d. look.tells x d.content ≡ Comes → ⊥) (bundles_waiting h) (record { entry = k; epoch = hears h + 1; content = c }) b.1 (none_comes_back (look.does x w) (look.tells x c) (t.0 runs x).returned)),
+          )
+      lost (Changes k u ∷ h) f t runs gone = let b : Lost h = lost h f.1 t.1 runs gone in ((λ new. b.0 (new_before (look.does x u) (life look begin x h) new)), b.1)
+      lost (Accepts k w ∷ h) f t runs gone = let b : Lost h = lost h f.1 t.1 runs gone in ((λ new. b.0 (new_before (look.does x w) (life look begin x h) new)), b.1)
+      lost (Ends ∷ h) f t runs gone = absurd cc
+      lost (_ ∷ h) f t runs gone = lost h f.1 t.1 runs gone
+
+      pub first_new : (d : Bundle B) (h : List (Event W B)) → Flows h → Fits look begin h → is_ended h ≡ false → IsFirst d (bundles_waiting h) → look.tells x d.content ≡ Comes → stage look begin x h ≡ Coming
+      first_new d h f t runs first comes = by_stage (stage look begin x h) refl
+        where
+          none : NoneComes (look.tells x) (bundles_waiting h) → ⊥
+          none waits = here (subst (NoneComes (look.tells x)) first.is waits)
+            where
+              here : NoneComes (look.tells x) (d ∷ first.rest) → ⊥
+              here (now, rest) = now comes
+
+          by_stage : (s : Stage) → stage look begin x h ≡ s → stage look begin x h ≡ Coming
+          by_stage Coming e = e
+          by_stage Held e = absurd (none (none_waits h f t runs e))
+          by_stage Gone e = absurd (none (lost h f t runs e).1)
 
     module _ (y : X) (is : look.above x ≡ Some y) where
       -- a context that is gone in the process went with the one above, or the parent knows it and no coming of it waits
@@ -332,10 +400,10 @@ module _ {X W B : Type 0} (look : Look X W B) (begin : Begin X) (l : Lawful look
 
           above_now : life look begin y (Sends k u c ∷ h) ≡ Held
           above_now = above_live look begin l x y is (Sends k u c ∷ h) t f.0
-              (sent_live (is_told look begin h) (look.registers c) (look.does x u) (look.tells x c) (life look begin x h) (t.0 f.0 x).told (t.0 f.0 x).done.done.new comes)
+              (sent_live (is_told look begin x h) (look.registers x c) (look.does x u) (look.tells x c) (life look begin x h) (t.0 f.0 x).told (t.0 f.0 x).done.done.new comes)
 
-          told_now : is_told look begin (Sends k u c ∷ h) ≡ true
-          told_now = (told_new (is_told look begin h) (look.registers c) (look.does x u) (look.tells x c) (life look begin x h) (t.0 f.0 x).told (t.0 f.0 x).done.done.new comes).1
+          told_now : is_told look begin x (Sends k u c ∷ h) ≡ true
+          told_now = (told_new (is_told look begin x h) (look.registers x c) (look.does x u) (look.tells x c) (life look begin x h) (t.0 f.0 x).told (t.0 f.0 x).done.done.new comes).1
 
           by_stage : (s : Stage) → joint look begin y (Sends k u c ∷ h) ≡ s → joint look begin x h ≡ Coming → joint look begin y (Sends k u c ∷ h) ≡ Held
           by_stage Held e new = e
@@ -344,8 +412,8 @@ module _ {X W B : Type 0} (look : Look X W B) (begin : Begin X) (l : Lawful look
               let comes_now : moved (look.tells x c) (joint look begin x h) ≡ Held = ap (λ a. moved a (joint look begin x h)) comes ∙ ap (moved Comes) new in
               absurd cc
           by_stage Coming e new =
-              absurd (subst (λ q. Agrees Coming q (MakeWaits look y (Sends k u c ∷ h)) (DropWaits look y (Sends k u c ∷ h))) above_now
-              (subst (λ q. Agrees q (life look begin y (Sends k u c ∷ h)) (MakeWaits look y (Sends k u c ∷ h)) (DropWaits look y (Sends k u c ∷ h))) e (agrees look begin l (Sends k u c ∷ h) f t told_now y)))
+              absurd (subst (λ q. Agrees Coming q (MakeWaits look y (Sends k u c ∷ h)) (GoingWaits look y (Sends k u c ∷ h))) above_now
+              (subst (λ q. Agrees q (life look begin y (Sends k u c ∷ h)) (MakeWaits look y (Sends k u c ∷ h)) (GoingWaits look y (Sends k u c ∷ h))) e (agrees look begin l (Sends k u c ∷ h) f t y (sym (told_above look begin l x y is (Sends k u c ∷ h)) ∙ told_now))))
 
           new_below : joint look begin x h ≡ Coming → moved (look.tells y c) (joint look begin y h) ≡ Held
           new_below new = by_stage (joint look begin y (Sends k u c ∷ h)) refl new

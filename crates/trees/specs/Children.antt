@@ -1,9 +1,9 @@
 -- The contexts below one, in the order in which they came, and who owns it: in the process and in the parent.
 use Rattle.std.specs.Prelude.{Bool, not, List, [], ◌∷◌, ◌++◌, filter}
-use Rattle.traces.specs.Event.{Event}
+use Rattle.traces.specs.Event.{Bundle, Event}
 use Rattle.traces.specs.Event.Event.{Writes, Sends, Takes, Accepts, Changes}
 use Rattle.traces.specs.Words.{is_gone}
-use Rattle.trees.specs.Look.{owned_behind, Look, Begin}
+use Rattle.trees.specs.Look.{Handing, owned_behind, Look, Begin}
 use Rattle.trees.specs.Words.{stage, life, is_held}
 
 -- those that ever came below y in the process: it made them, or was told of them
@@ -47,3 +47,8 @@ owns look begin y [] = begin.owned y
 owns look begin y (Writes w ∷ h) = owned_behind (look.hands y w) (owns look begin y h)
 owns look begin y (Takes d ∷ h) = owned_behind (look.handed y d.content) (owns look begin y h)
 owns look begin y (_ ∷ h) = owns look begin y h
+
+-- whether the process owns it behind these bundles, taken one after the other
+abbrev pub owner_behind : {B : Type 0} → (B → Handing) → List (Bundle B) → Bool → Bool
+owner_behind handed [] b = b
+owner_behind handed (d ∷ ds) b = owner_behind handed ds (owned_behind (handed d.content) b)

@@ -40,11 +40,11 @@ pub record Look (X W B : Type 0) : Type 0 where
   pub creates : X → W → Bool  -- a bundle of the process, or a change, names it as made, late or not
   pub needs : X → W → Bool  -- a bundle of the process names it as one that is known
   pub drops : X → W → Bool  -- a bundle of the process drops it
-  pub registers : B → Bool  -- the bundle makes the process one that is told of the group
+  pub registers : X → B → Bool  -- from the bundle on the process is told of the group that this one is in
 
 -- how a run begins
 pub record Begin (X : Type 0) : Type 0 where
-  pub is_told : Bool  -- the process is told of the group
+  pub is_told : X → Bool  -- the process is told of the group of a context
   pub stage : X → Stage  -- of a context in the process
   pub life : X → Stage  -- of a context in the parent
   pub owned : X → Bool  -- by the process, on both sides

@@ -21,8 +21,10 @@ pub record Lawful {X W B : Type 0} (look : Look X W B) (begin : Begin X) : Type 
   pub does_below : (x y : X) (w : W) → look.above x ≡ Some y → look.does y w ≡ Goes → look.does x w ≡ Goes
   pub tells_below : (x y : X) (c : B) → look.above x ≡ Some y → look.tells y c ≡ Goes → look.tells x c ≡ Goes
   pub creates_moves : (x : X) (w : W) → look.creates x w ≡ true → look.does x w ≡ Stays → ⊥
-  pub has_live : begin.is_told ≡ true → (x : X) → begin.stage x ≡ begin.life x
-  pub has_nothing : begin.is_told ≡ false → (x : X) → begin.stage x ≡ Coming
+  pub told_below : (x y : X) → look.above x ≡ Some y → begin.is_told x ≡ begin.is_told y
+  pub registers_below : (x y : X) (c : B) → look.above x ≡ Some y → look.registers x c ≡ look.registers y c
+  pub has_live : (x : X) → begin.is_told x ≡ true → begin.stage x ≡ begin.life x
+  pub has_nothing : (x : X) → begin.is_told x ≡ false → begin.stage x ≡ Coming
   pub none_gone : (x : X) → begin.life x ≡ Gone → ⊥
   pub none_own : (x : X) → look.is_own x ≡ true → begin.life x ≡ Coming
   pub none_below : (x y : X) → look.above x ≡ Some y → begin.life x ≡ Coming
@@ -36,7 +38,7 @@ Above {X} look x is_such = (y : X) × (look.above x ≡ Some y) × is_such y
 -- a context that the process makes is its own and new, and below one that it has
 pub record Makes {X W B : Type 0} (look : Look X W B) (begin : Begin X) (x : X)
     (h : List (Event W B)) : Type 0 where
-  pub told : is_told look begin h ≡ true
+  pub told : is_told look begin x h ≡ true
   pub own : look.is_own x ≡ true
   pub new : stage look begin x h ≡ Coming
   pub below : Above look x (λ y. stage look begin y h ≡ Held)
@@ -45,7 +47,7 @@ pub record Makes {X W B : Type 0} (look : Look X W B) (begin : Begin X) (x : X)
 abbrev pub Acts : {X W B : Type 0} → Look X W B → Begin X → X → List (Event W B) → Effect → Type 0
 Acts look begin x h Stays = Unit {0}
 Acts look begin x h Comes = Makes look begin x h
-Acts look begin x h Goes = is_told look begin h ≡ true
+Acts look begin x h Goes = is_told look begin x h ≡ true
 
 -- x is below y, made there by this bundle and by the process
 pub record OwnChild {X W B : Type 0} (look : Look X W B) (y : X) (w : W) (x : X) : Type 0 where
@@ -137,12 +139,12 @@ Handed false false did told is_owned = Unit {0}
 pub record Tells {X W B : Type 0} (look : Look X W B) (begin : Begin X) (e : Event W B) (u : W) (c : B)
     (x : X) (h : List (Event W B)) : Type 0 where
   pub done : DoneByOthers look begin e u x h
-  pub told : Told (is_told look begin h) (look.registers c) (look.does x u) (look.tells x c)
+  pub told : Told (is_told look begin x h) (look.registers x c) (look.does x u) (look.tells x c)
       (life look begin x h)
-  pub brought : Brought (is_told look begin h) (look.registers c) (look.brings x c) (look.makes x u)
+  pub brought : Brought (is_told look begin x h) (look.registers x c) (look.brings x c) (look.makes x u)
       (filter (is_alive look begin (e ∷ h)) (attached look x h ++ look.makes x u))
   pub others : AllByRecursion (OtherChild look x) (look.brings x c)
-  pub handed : life look begin x (e ∷ h) ≡ Held → Handed (is_told look begin h) (look.registers c)
+  pub handed : life look begin x (e ∷ h) ≡ Held → Handed (is_told look begin x h) (look.registers x c)
       (look.hands x u) (look.handed x c) (owned look begin x (e ∷ h))
   pub only_live : (look.handed x c ≡ Same) ⊎ (life look begin x (e ∷ h) ≡ Held)
 
@@ -157,7 +159,7 @@ pub record GivesBack {X W B : Type 0} (look : Look X W B) (begin : Begin X) (w :
   pub returned : Returned (look.does x w) (look.tells x c)
   pub with_above : look.tells x c ≡ Goes → look.is_own x ≡ true → life look begin x h ≡ Coming →
       (look.does x w ≡ Comes) ⊎ Above look x (λ y. look.tells y c ≡ Goes)
-  pub untold : is_told look begin h ≡ false → look.tells x c ≡ Stays
+  pub untold : is_told look begin x h ≡ false → look.tells x c ≡ Stays
   pub brings_none : look.brings x c ≡ []
   pub hands_none : look.handed x c ≡ Same
 
@@ -171,9 +173,9 @@ Ignored Goes l = l ≡ Gone
 pub record Unsent {X W B : Type 0} (look : Look X W B) (begin : Begin X) (e : Event W B) (u : W) (x : X)
     (h : List (Event W B)) : Type 0 where
   pub done : DoneByOthers look begin e u x h
-  pub untold : is_told look begin h ≡ true → look.does x u ≡ Stays
-  pub makes_none : is_told look begin h ≡ true → look.makes x u ≡ []
-  pub hands_none : is_told look begin h ≡ true → life look begin x (e ∷ h) ≡ Held → look.hands x u ≡ Same
+  pub untold : is_told look begin x h ≡ true → look.does x u ≡ Stays
+  pub makes_none : is_told look begin x h ≡ true → look.makes x u ≡ []
+  pub hands_none : is_told look begin x h ≡ true → life look begin x (e ∷ h) ≡ Held → look.hands x u ≡ Same
 
 -- ---- all events
 

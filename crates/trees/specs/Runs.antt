@@ -73,7 +73,7 @@ look = record {
   creates = creates;
   needs = needs;
   drops = λ x w. false;
-  registers = λ c. false;
+  registers = λ x c. false;
 }
 
 abbrev pub first_stage : Context → Stage
@@ -85,7 +85,7 @@ first_owned Tab = true
 first_owned _ = false
 
 abbrev pub begin : Begin Context
-begin = record { is_told = true; stage = first_stage; life = first_stage; owned = first_owned }
+begin = record { is_told = λ x. true; stage = first_stage; life = first_stage; owned = first_owned }
 
 abbrev pub bundle : Change → Bundle Change
 bundle HandsTabOver = record { entry = 1; epoch = 0; content = HandsTabOver }

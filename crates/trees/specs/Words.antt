@@ -8,11 +8,11 @@ use Rattle.traces.specs.Words.Stage.{Held}
 use Rattle.trees.specs.Look.{Effect, moved, Look, Begin}
 
 -- the parent tells the process of the group: from the start or a Register on, and until the process's end
-abbrev pub is_told : {X W B : Type 0} → Look X W B → Begin X → List (Event W B) → Bool
-is_told look begin [] = begin.is_told
-is_told look begin (Sends k u c ∷ h) = look.registers c || is_told look begin h
-is_told look begin (Ends ∷ h) = false
-is_told look begin (_ ∷ h) = is_told look begin h
+abbrev pub is_told : {X W B : Type 0} → Look X W B → Begin X → X → List (Event W B) → Bool
+is_told look begin x [] = begin.is_told x
+is_told look begin x (Sends k u c ∷ h) = look.registers x c || is_told look begin x h
+is_told look begin x (Ends ∷ h) = false
+is_told look begin x (_ ∷ h) = is_told look begin x h
 
 -- the stage of a context in the process, by what it did and what it took
 abbrev pub stage : {X W B : Type 0} → Look X W B → Begin X → X → List (Event W B) → Stage

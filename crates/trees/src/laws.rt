@@ -1,6 +1,8 @@
 ghost use Rattle.trees.specs.Laws.{QuietHoldsWhatIsLive, UntoldHoldsNothing, QuietChildrenAreTheParents};
 ghost use Rattle.trees.specs.Laws.{ChildrenHaveOneOwner, QuietOwnersAreTheParents, OwnIdsAreGood};
 ghost use Rattle.trees.specs.Laws.{DropsAreAllowed, ComingsAreBelowTheHeld, KnownHasCome};
+ghost use Rattle.trees.specs.Laws.{MissingIsOnItsWay, ComingsBringTheOwner, TopsComeOnce, HeardIsTold};
+ghost use Rattle.trees.specs.Laws.{UntoldMadeNothing};
 ghost use Rattle.trees.specs.Runs.{WorkedRun};
 
 /// With both links empty, a process that is told of the group has exactly the contexts that are live in the
@@ -50,6 +52,35 @@ pub fn comings_are_below_the_held<X, W, B>()
 /// What the parent has heard of, as made in time or as made by the process, is live or was.
 pub fn known_has_come<X, W, B>()
     ensures { KnownHasCome X W B }
+{}
+
+/// What a process is told of and is live in the parent, the process is without only while the coming waits to
+/// be taken, or its own drop to be heard.
+pub fn missing_is_on_its_way<X, W, B>()
+    ensures { MissingIsOnItsWay X W B }
+{}
+
+/// With a coming that waits the owner comes: behind all that waits, the process owns the context exactly where
+/// the parent has it as the owner.
+pub fn comings_bring_the_owner<X, W, B>()
+    ensures { ComingsBringTheOwner X W B }
+{}
+
+/// A context of another with nothing above it comes once: as a bundle that brings it is taken, the process
+/// never had it.
+pub fn tops_come_once<X, W, B>()
+    ensures { TopsComeOnce X W B }
+{}
+
+/// What makes or drops a context, as it is heard of a process that wasn't ended, is of one that the process is
+/// told of.
+pub fn heard_is_told<X, W, B>()
+    ensures { HeardIsTold X W B }
+{}
+
+/// Below a context that a process that wasn't ended isn't told of, all that was ever attached others made.
+pub fn untold_made_nothing<X, W, B>()
+    ensures { UntoldMadeNothing X W B }
 {}
 
 /// The worked run keeps the rules, and ends with what it is said to.

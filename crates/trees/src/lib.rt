@@ -6,7 +6,8 @@
 mod laws;
 
 pub use laws::{
-    children_have_one_owner, comings_are_below_the_held, drops_are_allowed, known_has_come,
-    own_ids_are_good, quiet_children_are_the_parents, quiet_holds_what_is_live,
-    quiet_owners_are_the_parents, untold_holds_nothing, worked_run,
+    children_have_one_owner, comings_are_below_the_held, comings_bring_the_owner,
+    drops_are_allowed, heard_is_told, known_has_come, missing_is_on_its_way, own_ids_are_good,
+    quiet_children_are_the_parents, quiet_holds_what_is_live, quiet_owners_are_the_parents,
+    tops_come_once, untold_holds_nothing, untold_made_nothing, worked_run,
 };

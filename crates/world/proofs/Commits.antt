@@ -1,5 +1,5 @@
 -- No more commits were made or heard than there are entries.
-use Rattle.std.proofs.Common.{◌≡◌, ℕ, zero, suc, ◌+◌, ◌≤◌, ◌==◌, Bool, true, false, if◌then◌else◌, List, [], ◌∷◌, ◌++◌, length, map, refl, sym, subst, ◌∙◌, arith}
+use Rattle.std.proofs.Common.{◌≡◌, ℕ, zero, suc, ◌+◌, ◌≤◌, ◌==◌, Bool, true, false, if◌then◌else◌, List, [], ◌∷◌, ◌++◌, length, map, refl, ◌∙◌, arith}
 use Rattle.std.specs.Prelude.{is_none, is_some}
 use Rattle.field_table.specs.declared.field.Field.{Field}
 use Rattle.wire_msgs.specs.declared.action.Action.{Action}
@@ -24,6 +24,7 @@ use Rattle.journal.specs.declared.entry.Step.{Step}
 use Rattle.journal.specs.declared.entry.Step.TheVariants.{Act, Take, Raw as RawStep, ParentAct, Hear}
 use Rattle.protocol.specs.Bundle.{Ruling, after_sending, bundle_ruling, envelope_fault, is_counted, is_no_bundle}
 use Rattle.protocol.specs.Fold.{or_later, behind_all, after_part, after_parts, first_fault}
+use Rattle.protocol.specs.FactsAfter.{raised}
 use Rattle.protocol.specs.Hear as hear
 use Rattle.protocol.specs.Outside.{told_allowed}
 use Rattle.protocol.specs.OwnActs as acts
@@ -39,7 +40,6 @@ use Rattle.traces.specs.Links.{writes_waiting, bundles_waiting}
 use Rattle.model.specs.Journal.{Journal}
 use Rattle.model.specs.Moments.{Moment, Written, said, did_by, events_of, seen_now, only_answer, taken_moment, raw_moment, if_running, heard_moment, moment, moments_of}
 use Rattle.model.specs.Moments.Written.{Own, Raw, Said}
-use Rattle.protocol.specs.FactsAfter.{raised}
 use Rattle.model.specs.Parent.{commits_heard}
 use Rattle.model.specs.Process.{commits}
 use Rattle.model.proofs.Cases.{by_if}

@@ -12,12 +12,13 @@ use Rattle.wire_msgs.specs.declared.refusal.Refusal.TheVariants.{Stopped}
 use Rattle.journal.specs.declared.entry.Step.{Step}
 use Rattle.journal.specs.declared.entry.Step.TheVariants.{Act, Take, Raw as RawStep, ParentAct, Hear}
 use Rattle.protocol.specs.Bundle.{Ruling}
-use Rattle.protocol.specs.OwnActs.{action_step}
-use Rattle.protocol.specs.Take as take
 use Rattle.protocol.specs.Outside.{told_allowed}
+use Rattle.protocol.specs.OwnActs.{action_step}
 use Rattle.protocol.specs.Sayings.{Saying}
 use Rattle.protocol.specs.Seen.{Seen, Doing}
 use Rattle.protocol.specs.Seen.Doing.{Framed, Went}
+use Rattle.protocol.specs.Take as take
+use Rattle.protocol.specs.Take.{bundle_sent}
 use Rattle.model.specs.Journal.{Journal}
 use Rattle.traces.specs.Event.{Bundle}
 use Rattle.traces.specs.Event.Event.{Writes, Takes, Accepts, Ignores, Ends}
@@ -25,8 +26,8 @@ use Rattle.traces.specs.Links.{hears, takes, bundles_sent, writes_waiting, bundl
 use Rattle.model.specs.Moments.{Moment, Written, ProcessEvent, events_of, facts_now, seen_now, for_one, only_answer, written, deeds, is_end_of, ends, told, sent_to, moment, if_running, taken_moment, raw_moment, heard_moment, heard, events_heard, is_done, moments_of}
 use Rattle.model.specs.Moments.Written.{Own, Raw, Said}
 use Rattle.model.proofs.Counts.{counts_still, taken_still, counts_start, taken_start}
-use Rattle.world.proofs.Comes.{action_looked, looked_at}
 use Rattle.world.proofs.LooksBack.{seen_with}
+use Rattle.world.proofs.Comes.{action_looked, looked_at}
 
 -- no count of these events is greater than n
 pub record Few (n : ℕ) (h : List ProcessEvent) : Type 0 where
@@ -129,8 +130,8 @@ hear_added c p q ms allows (Raw b ∷ ws) = events_added c p q ms (Raw b) (looke
 moment_added : (c : Config) (ms : List Moment) (allows : Field → Bool) (s : Step) (q : ℕ) → AddsFew ((moment c ms allows s).events q)
 moment_added c ms allows (Act p action) q =
     let step : take.Step (List Doing) = action_step (seen_with c p.0 ms) (λ d did. d ∷ did) p.0 action [] in
-    let behind : Seen = seen_with c p.0 ms step.kept in
-    one_added p.0 q (written (take.bundle_sent behind step.sends) ++ deeds behind step.kept) (acted_added (take.bundle_sent behind step.sends) behind step.kept)
+    let s : Seen = seen_with c p.0 ms step.kept in
+    one_added p.0 q _ (acted_added (bundle_sent s step.sends) s step.kept)
 moment_added c ms allows (Take p) q = running_added c p.0 q ms (taken_moment c p.0 ms (bundles_waiting (events_of p.0 ms))) (take_added c p.0 q ms (bundles_waiting (events_of p.0 ms)))
 moment_added c ms allows (RawStep p b) q = running_added c p.0 q ms (raw_moment p.0 b) (one_added p.0 q _ (wrote_added (Raw b)))
 moment_added c ms allows (ParentAct action) q =

@@ -1,5 +1,5 @@
 -- Which parts the bundles of a run have: a process sends what the parent hears, and the parent what a process takes.
-use Rattle.std.proofs.Common.{◌≡◌, ℕ, zero, suc, ◌+◌, ◌==◌, Bool, true, false, if◌then◌else◌, List, [], ◌∷◌, ◌++◌, length, drop, map, Option, None, Some}
+use Rattle.std.proofs.Common.{ℕ, zero, suc, ◌+◌, ◌==◌, Bool, not, ◌&&◌, if◌then◌else◌, List, [], ◌∷◌, ◌++◌, length, drop, map}
 use Rattle.std.specs.Prelude.{⊤, is_some}
 use Rattle.std.specs.List.{AllByRecursion, list_any}
 use Rattle.field_table.specs.declared.field.Field.{Field}
@@ -24,18 +24,18 @@ use Rattle.wire_msgs.specs.declared.part.DownPart.TheVariants as downs
 use Rattle.wire_msgs.specs.declared.part.UpPart.{UpPart}
 use Rattle.wire_msgs.specs.declared.part.UpPart.TheVariants as ups
 use Rattle.wire_msgs.specs.declared.refusal.Refusal.TheVariants.{Stopped}
-use Rattle.journal.specs.Step.{StepFits, IsPlayed as IsPlayedByParent}
+use Rattle.journal.specs.Step.{StepFits}
 use Rattle.journal.specs.declared.entry.Step.{Step}
 use Rattle.journal.specs.declared.entry.Step.TheVariants.{Act, Take, Raw as RawStep, ParentAct, Hear}
 use Rattle.protocol.specs.Bundle.{Ruling, bundle_for, bundle_ruling, end_parts, envelope_fault, is_counted}
 use Rattle.protocol.specs.Fold.{or_later, after_part, first_fault, posts_of}
 use Rattle.protocol.specs.Hear as hear
-use Rattle.protocol.specs.Order.{in_order}
 use Rattle.protocol.specs.Outside.{told_allowed}
 use Rattle.protocol.specs.OwnActs as acts
 use Rattle.protocol.specs.ParentActs as parent_acts
-use Rattle.protocol.specs.Played.{IsPlayed, ArePlayed}
-use Rattle.protocol.specs.Questions.{Facts, is_told}
+use Rattle.protocol.specs.ParentActs.{context_of_tab, group_of_tab, known_of, register_of}
+use Rattle.protocol.specs.Played.{IsPlayed, IsPlayedByParent, ArePlayed}
+use Rattle.protocol.specs.Questions.{Facts, is_subscribed, is_told}
 use Rattle.protocol.specs.Sayings.{Saying}
 use Rattle.protocol.specs.Sayings.Saying.{Counted}
 use Rattle.protocol.specs.Seen.{Seen, Doing}
@@ -144,17 +144,14 @@ one_sound p q es all = by_if AreSound (q == p) es [] (λ is. all) (λ isnt. tt)
 act_sound : (c : Config) (p q : ℕ) (action : Action) (ms : List Moment) → AreSound ((act_moment c p action ms).events q)
 act_sound c p q action ms =
     let step : take.Step (List Doing) = acts.action_step (seen_with c p ms) (λ d did. d ∷ did) p action [] in
-    let behind : Seen = seen_with c p ms step.kept in
-    one_sound p q (written (take.bundle_sent behind step.sends) ++ deeds behind step.kept)
-    (sent_sound behind step.sends (deeds behind step.kept) (act_played p action (seen_with c p ms)) (deeds_sound behind step.kept))
+    let s : Seen = seen_with c p ms step.kept in
+    one_sound p q _ (sent_sound s step.sends (deeds s step.kept) (act_played p action (seen_with c p ms)) (deeds_sound s step.kept))
 
 take_sound : (c : Config) (p q : ℕ) (ms : List Moment) (ds : List (Bundle DownBundle)) → AreSound ((taken_moment c p ms ds).events q)
 take_sound c p q ms [] = tt
 take_sound c p q ms (d ∷ ds) =
     let step : take.Step (List Doing) = take.bundle_step (seen_with c p ms) (λ d did. d ∷ did) p d.content [] in
-    let behind : Seen = seen_with c p ms step.kept in
-    one_sound p q (written (take.bundle_sent behind step.sends) ++ Takes d ∷ [])
-    (sent_sound behind step.sends (Takes d ∷ []) (take_played p d.content (seen_with c p ms)) (tt, tt))
+    one_sound p q _ (sent_sound (seen_with c p ms step.kept) step.sends (Takes d ∷ []) (take_played p d.content (seen_with c p ms)) (tt, tt))
 
 running_sound : (c : Config) (p q : ℕ) (ms : List Moment) (m : Moment) → AreSound (m.events q) → AreSound ((if_running c p ms m).events q)
 running_sound c p q ms m all = by_if (λ (k : Moment). AreSound (k.events q)) (seen_now c p ms).running m (only_answer (answers.Refused Stopped)) (λ runs. all) (λ stopped. tt)
@@ -182,6 +179,10 @@ SendsTaken rule = (q : ℕ) → IsTaken (rule.sends q)
 action_posts : (n : ℕ) (f behind : Facts) (action : ParentAction) (q : ℕ) → IsPlayedByParent n action → IsTaken (parent_acts.posts f behind action q)
 unfolding parent_acts.posts
 action_posts n f behind (parents.Set x t) q played = by_if IsTaken (is_told f q x) (downs.Commit x t ∷ []) [] (λ is. (tt, tt)) (λ isnt. tt)
+action_posts n f behind (parents.Tab p named) q played =
+    by_if IsTaken (is_subscribed f q (group_of_tab f named)) (downs.Create (known_of behind q (context_of_tab f)) ∷ []) (if q == p.0 then register_of behind q (group_of_tab f named) ∷ [] else []) (λ is. (tt, tt))
+    (λ isnt. by_if IsTaken (q == p.0) (register_of behind q (group_of_tab f named) ∷ []) [] (λ is. (tt, tt)) (λ other. tt))
+action_posts n f behind (parents.Subscribe p g) q played = by_if IsTaken (q == p.0 && not (is_subscribed f q g)) (register_of behind q g ∷ []) [] (λ is. (tt, tt)) (λ isnt. tt)
 action_posts n f behind (parents.Discard x) q played = by_if IsTaken (is_told f q x) (downs.Discard x ∷ []) [] (λ is. (tt, tt)) (λ isnt. tt)
 action_posts n f behind (parents.Kill p) q played = by_if IsTaken (q == p.0) (downs.Kill ∷ []) [] (λ is. (tt, tt)) (λ isnt. tt)
 action_posts n f behind (_) q played = absurd played

@@ -1,11 +1,10 @@
 -- A world that stands for its journal is ready for a step.
-use Rattle.std.proofs.Common.{◌≡◌, ℕ, ◌<◌, ◌≤◌, Bool, List, [], ◌∷◌, length, map, get_or, Option, None, Some, refl, sym, ap, subst, ◌∙◌, arith}
+use Rattle.std.proofs.Common.{◌≡◌, ℕ, ◌<◌, List, ◌∷◌, length, map, get_or, Option, None, Some, sym, ap, subst, ◌∙◌, arith}
 use Rattle.std.specs.List.{AllByRecursion}
 use Rattle.std.specs.Option.{option_map}
 use Rattle.std.proofs.lemmas.List.{length-map, get_or-map}
 use Rattle.wire_msgs.specs.declared.bundle.DownBundle.{DownBundle}
 use Rattle.wire_msgs.specs.declared.bundle.UpBundle.{UpBundle}
-use Rattle.wire_msgs.specs.declared.config.Config.{Config}
 use Rattle.protocol.specs.Played.{ArePlayed}
 use Rattle.protocol.specs.Questions.{Facts}
 use Rattle.protocol.specs.Start.{numbers}
@@ -15,10 +14,9 @@ use Rattle.parent_core.specs.Parent.{Kept as ParentKept, facts_of}
 use Rattle.traces.specs.Links.{takes, bundles_sent}
 use Rattle.model.specs.Journal.{Journal}
 use Rattle.model.specs.Links.{up_waiting, down_waiting}
-use Rattle.model.specs.Moments.{Moment, said, did_by, events_of, facts_now, moments_of}
+use Rattle.model.specs.Moments.{said, did_by, events_of, facts_now, moments_of}
 use Rattle.model.specs.Parent.{commits_heard}
 use Rattle.model.specs.Process.{commits}
-use Rattle.model.specs.Next.{Run}
 use Rattle.world.specs.Came.{State}
 use Rattle.world.specs.Sides.{Side, side_of, sides_of, waiting_at}
 use Rattle.world.specs.Stands.{side, state_of, Stands, most_entries}
@@ -38,15 +36,6 @@ length-by_numbers f n = length-map (numbers 0 n) f ∙ length-numbers 0 n
 
 module _ (before : ParentKept) (contents : List (Option ContentKept)) (ups : List (List UpBundle)) (downs : List (List DownBundle)) (j : Journal)
     (stands : Stands before.config j (state_of before contents ups downs)) (room : length j < most_entries) where
-  abbrev c : Config
-  c = before.config
-
-  abbrev ms : List Moment
-  ms = moments_of before.config j
-
-  abbrev run : Run
-  run = record { config = before.config; journal = j }
-
   facts_are : facts_of before ≡ facts_now before.config (moments_of before.config j)
   facts_are = ap (λ (s : State). s.facts) stands.is
 

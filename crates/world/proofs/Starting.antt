@@ -38,7 +38,7 @@ state_at_start : (c : Config) → state c [] ≡ record {
   ups = map (λ p. []) (numbers 0 (length c.types));
   downs = map (λ p. []) (numbers 0 (length c.types));
 }
-unfolding parent.known parent.group parent.above parent.under parent.live parent.owner parent.value parent.order parent.groups_made parent.subscribers parent.keeping parent.commits_heard parent.bundles_sent parent.ended parent.tabs_made process.running process.commits process.taken process.frames_made process.holds process.under process.group process.above process.owns process.value process.newest process.order
+unfolding parent.value parent.commits_heard parent.bundles_sent parent.ended parent.owner parent.subscribers parent.known parent.group parent.above parent.live parent.under parent.order parent.groups_made parent.keeping parent.tabs_made process.running process.commits process.taken process.value process.newest process.frames_made process.holds process.group process.above process.under process.owns process.order
 state_at_start c = refl
 
 -- a world stands for no journal

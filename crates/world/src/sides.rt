@@ -1,5 +1,6 @@
 ghost use Rattle.std.specs.Prelude.{◌≡◌, ◌<◌, length, IfOk, IsSome, OnOk, Some, None, slice_index_or};
-ghost use Rattle.content_core.specs.Content.{IsPlayed, Kept};
+ghost use Rattle.protocol.specs.Played.{IsPlayedByProcess};
+ghost use Rattle.content_core.specs.Content.{Kept};
 ghost use Rattle.content_core.specs.Moved.{Counts, IsTaken};
 ghost use Rattle.world.specs.Sides.{sides_of, runs_at, step_of_action, step_of_bundle, sides_after};
 ghost use Rattle.world.specs.Sides.{sent_by, ups_after};
@@ -42,7 +43,7 @@ pub(crate) fn act_at(
 ) -> Result<Told, OutOfMemory>
     requires place { p.0 < length contents.old }
     requires there { IsSome (slice_index_or contents.old p.0 None) }
-    requires action { IsPlayed action }
+    requires action { IsPlayedByProcess action }
     requires counts { (k : Kept) → slice_index_or contents.old p.0 None ≡ Some k → Counts k }
     ensures answer { IfOk result (λ t. t.answer ≡
         (step_of_action p.0 action (sides_of contents.old)).answer) }

@@ -2,8 +2,8 @@ ghost use Rattle.std.specs.Prelude.{◌≡◌, ◌<◌, length, IfOk, OnOk};
 ghost use Rattle.field_rules.specs.RuleBounds.{bounds_of};
 ghost use Rattle.wire_msgs.specs.declared.answer.Answer.TheVariants.{Refused};
 ghost use Rattle.wire_msgs.specs.declared.refusal.Refusal.TheVariants.{Stopped};
-ghost use Rattle.journal.specs.Step.{StepFits, IsPlayed as IsPlayedByParent};
-ghost use Rattle.content_core.specs.Content.{IsPlayed};
+ghost use Rattle.journal.specs.Step.{StepFits};
+ghost use Rattle.protocol.specs.Played.{IsPlayedByParent, IsPlayedByProcess};
 ghost use Rattle.world.specs.Came.{came, acted, taken, raw_sent, if_running, heard, parent_acted};
 ghost use Rattle.world.specs.Sides.{waiting_at};
 ghost use Rattle.world.specs.Ready.{AreReady};
@@ -52,7 +52,7 @@ pub(crate) fn come(
 fn act(parent: Parent, sides: &mut Sides, p: ProcId, action: Action) -> Result<Came, OutOfMemory>
     requires ready { AreReady parent sides.old }
     requires process { p.0 < length parent.config.types }
-    requires action { IsPlayed action }
+    requires action { IsPlayedByProcess action }
     ensures config { IfOk result (λ k. k.parent.config ≡ parent.config) }
     ensures answer { IfOk result (λ k. k.answer ≡
         (acted p.0 action (whole parent sides.old)).answer) }

@@ -1,5 +1,5 @@
-ghost use Rattle.std.specs.Prelude.{◌≡◌, ℕ, ◌<◌, ◌≤◌, ◌∷◌, ◌&&◌, not, filter, length, true, false};
-ghost use Rattle.std.specs.Prelude.{nat_lt, is_some, IfOk, IfSome, OnOk, None, Some};
+ghost use Rattle.std.specs.Prelude.{◌≡◌, ℕ, ◌<◌, ◌≤◌, ◌∷◌, ◌&&◌, ◌||◌, not, filter, length, true};
+ghost use Rattle.std.specs.Prelude.{false, nat_lt, is_some, IfOk, IfSome, OnOk, None, Some};
 ghost use Rattle.fission_ids.specs.declared.context.ContextId.{ContextId};
 ghost use Rattle.field_table.specs.declared.field.Field.{Field};
 ghost use Rattle.field_rules.specs.RuleBounds.{bounds_of};
@@ -12,13 +12,15 @@ ghost use Rattle.journal.specs.declared.entry.Step.TheVariants.{Take, Hear};
 ghost use Rattle.protocol.specs.Questions.{is_told};
 ghost use Rattle.content_core.specs.Content.{seen_of};
 ghost use Rattle.parent_core.specs.Parent.{facts_of};
-ghost use Rattle.model.specs.Laws.{RunFits, EndsAlone, IsTheSame, frames_in};
+ghost use Rattle.model.specs.Laws.{RunFits, EndsAlone, IsTheSame, ComesWhole, frames_in};
+ghost use Rattle.model.specs.Laws.{coming_waits, drop_waits};
 ghost use Rattle.model.specs.Links.{is_quiet, is_nothing, up_waiting, down_waiting};
 ghost use Rattle.model.specs.Moments.{facts_now, seen_now, moments_of};
 ghost use Rattle.model.specs.Settling.{moments_in};
 ghost use Rattle.model.specs.Next.{run_at_start, run_after, moment_after};
 ghost use Rattle.model.specs.View.{view, parent_view, base, point, value_at, newest, is_answered};
 ghost use Rattle.model.specs.View.{IsOnItsWay, reverted_in, sent_first, is_honest};
+ghost use Rattle.world.specs.Missing.{IsMissing};
 ghost use Rattle.world.specs.Stands.{most_entries};
 
 use crate::sides::{Sides, runs_at};
@@ -163,6 +165,12 @@ impl World {
             (cause : EndCause) →
             (facts_now self.now.config (moments_in self.now)).processes.ended p.0 ≡ Some cause →
             cause ≡ Killed) }
+        // What it should hold and doesn't is on its way, or its own drop is.
+        ensures comes { IfSome result (λ c. (x : ContextId) → IsMissing self.now p.0 x →
+            (coming_waits p.0 x (moments_in self.now) || drop_waits p.0 x (moments_in self.now)) ≡ true) }
+        // And without such a drop it comes with the parent's present values and ownership.
+        ensures brings { IfSome result (λ c. (x : ContextId) → IsMissing self.now p.0 x →
+            drop_waits p.0 x (moments_in self.now) ≡ false → ComesWhole self.now p.0 x) }
     {
         self.sides.contents.get(p.0 as usize)?.as_ref()
     }

@@ -8,9 +8,11 @@ use Rattle.content_core.specs.Content.{seen_of}
 use Rattle.model.specs.Moments.{seen_now, moments_of}
 use Rattle.model.specs.Next.{Run}
 use Rattle.model.specs.Settling.{moments_in}
-use Rattle.model.specs.Laws.{RunFits}
+use Rattle.model.specs.Laws.{RunFits, IsWithout}
 use Rattle.model.specs.View.{view, is_honest}
+use Rattle.model.proofs.Comings.{what_is_told, what_comes}
 use Rattle.model.proofs.FieldLaws.{reverts_stand, only_killed}
+use Rattle.world.specs.Missing.{IsMissing}
 use Rattle.world.specs.Sides.{side_of}
 use Rattle.world.specs.Stands.{side}
 use Rattle.world.proofs.Shown.{contents_count, held_at, shows_at, number_at, answers_at, is_there}
@@ -68,3 +70,21 @@ returns-clause-killed c =
     if_some c.as_ref.result
     (λ honest cause. only_killed c.args.self.now c.args.p.0 cause (subst RunFits c.self.view_is c.self.invariant.fits)
     (subst (λ (r : Run). c.args.p.0 < length r.config.types) c.self.view_is (within c)) honest)
+
+-- what is missing in a world is missing in a run that fits
+without : (c : goal.After-as_ref) (x : ContextId) → IsMissing c.args.self.now c.args.p.0 x → IsWithout c.args.self.now c.args.p.0 x
+without c x m = record {
+  fits = subst RunFits c.self.view_is c.self.invariant.fits;
+  process = subst (λ (r : Run). c.args.p.0 < length r.config.types) c.self.view_is (within c);
+  honest = m.honest;
+  runs = m.runs;
+  live = m.live;
+  told = m.told;
+  unheld = m.unheld;
+}
+
+pub returns-clause-comes : goal.returns-clause-comes
+returns-clause-comes c = if_some c.as_ref.result (λ x m. what_is_told c.args.self.now c.args.p.0 x (without c x m))
+
+pub returns-clause-brings : goal.returns-clause-brings
+returns-clause-brings c = if_some c.as_ref.result (λ x m none. what_comes c.args.self.now c.args.p.0 x (without c x m) none)

@@ -10,6 +10,7 @@ use Rattle.fission_ids.specs.declared.process.ProcId.{ProcId}
 use Rattle.fission_ids.specs.declared.process.ProcSet.{ProcSet}
 use Rattle.fission_ids.specs.ProcSet.{has}
 use Rattle.fission_ids.specs.declared.context.ContextId.{ContextId}
+use Rattle.fission_ids.specs.declared.group.GroupId.{GroupId}
 use Rattle.field_table.specs.declared.field.Field.{Field}
 use Rattle.transaction.specs.Transaction.{Changes}
 use Rattle.wire_msgs.specs.declared.config.StartTab.{StartTab}
@@ -33,7 +34,7 @@ use Rattle.fission_ids.specs.Gives.{Gives}
 use Rattle.scenario.specs.Faults.{is_memory, ◌>>=◌, asks, or_shape}
 use Rattle.scenario.specs.declared.members.Kind.TheVariants as kinds
 use Rattle.scenario.specs.Members.{allows, has_only, is_text, whole_number}
-use Rattle.scenario.specs.Reading.{type_of, types_of, processes_of, process_of, items_in, process_numbers, all_differ, are_others, proc_set_of, also_of, start_tab_of, start_tabs_of, context_at, transaction_of, write_of, set_line, take_line, hear_line, frame_line, drop_line, discard_line, kill_line, commit_part, create_part, context_part, drop_part, ack_part, raw_part, raw_parts, parts_of, raw_of, raw_line, settle_line, actor_of, field_of, show_one, show_side, show_line, line_of, lines_of, with_types, scenario_of, or_unread, data_of, reading}
+use Rattle.scenario.specs.Reading.{type_of, types_of, processes_of, process_of, items_in, process_numbers, all_differ, are_others, proc_set_of, also_of, start_tab_of, start_tabs_of, context_at, transaction_of, write_of, set_line, take_line, hear_line, frame_line, drop_line, discard_line, group_at, group_named, tab_line, subscribe_line, kill_line, commit_part, create_part, context_part, drop_part, ack_part, raw_part, raw_parts, parts_of, raw_of, raw_line, settle_line, actor_of, field_of, show_one, show_side, show_line, line_of, lines_of, with_types, scenario_of, or_unread, data_of, reading}
 use Rattle.scenario.specs.Fits.{ActorFits, LineFits, Fits}
 use Rattle.scenario.proofs.Also.{set_below, set_of_others}
 
@@ -251,6 +252,32 @@ discard_fits place n d l e =
     let x = bind_ok found (λ x. Ok (discard x)) l b.1 in
     subst (λ (y : Line). LineFits n y) (ok_is (discard x.0) l x.2) tt
 
+tab_line_fits : (place n : ℕ) (d : Data) (l : Line) → tab_line place n d ≡ Ok l → LineFits n l
+unfolding tab_line
+tab_line_fits place n d l e =
+    let owner = get (codes "owner") d in
+    let found = group_named place (get (codes "group") d) in
+    let tab : ProcId → Option GroupId → Line = λ p g. lines.Step (steps.ParentAct (parents.Tab p g)) in
+    let opened : ProcId → Result Line ReadFault = λ p. found >>= λ g. Ok (tab p g) in
+    let a = asks_ok place (has_only (allows kinds.OpenTab) d) (asks place (is_text (codes "parent") (get (codes "at") d)) (process_of place n owner >>= opened)) l e in
+    let b = asks_ok place (is_text (codes "parent") (get (codes "at") d)) (process_of place n owner >>= opened) l a.1 in
+    let p = bind_ok (process_of place n owner) opened l b.1 in
+    let g = bind_ok found (λ g. Ok (tab p.0 g)) l p.2 in
+    subst (λ (y : Line). LineFits n y) (ok_is (tab p.0 g.0) l g.2) (process_below place n owner p.0 p.1)
+
+subscribe_fits : (place n : ℕ) (d : Data) (l : Line) → subscribe_line place n d ≡ Ok l → LineFits n l
+unfolding subscribe_line
+subscribe_fits place n d l e =
+    let process = get (codes "process") d in
+    let found = group_at place (get (codes "group") d) in
+    let subscribe : ProcId → GroupId → Line = λ p g. lines.Step (steps.ParentAct (parents.Subscribe p g)) in
+    let joined : ProcId → Result Line ReadFault = λ p. found >>= λ g. Ok (subscribe p g) in
+    let a = asks_ok place (has_only (allows kinds.Subscribe) d) (asks place (is_text (codes "parent") (get (codes "at") d)) (process_of place n process >>= joined)) l e in
+    let b = asks_ok place (is_text (codes "parent") (get (codes "at") d)) (process_of place n process >>= joined) l a.1 in
+    let p = bind_ok (process_of place n process) joined l b.1 in
+    let g = bind_ok found (λ g. Ok (subscribe p.0 g)) l p.2 in
+    subst (λ (y : Line). LineFits n y) (ok_is (subscribe p.0 g.0) l g.2) (process_below place n process p.0 p.1)
+
 kill_fits : (place n : ℕ) (d : Data) (l : Line) → kill_line place n d ≡ Ok l → LineFits n l
 unfolding kill_line
 kill_fits place n d l e =
@@ -387,7 +414,9 @@ line_fits place n d l e =
     let settle = cond (is_text (codes "settle") does) (settle_line place d) show in
     let raw = cond (is_text (codes "raw") does) (raw_line place n d) settle in
     let kill = cond (is_text (codes "kill") does) (kill_line place n d) raw in
-    let discard = cond (is_text (codes "discard") does) (discard_line place d) kill in
+    let subscribe = cond (is_text (codes "subscribe") does) (subscribe_line place n d) kill in
+    let tab = cond (is_text (codes "tab") does) (tab_line place n d) subscribe in
+    let discard = cond (is_text (codes "discard") does) (discard_line place d) tab in
     let drop = cond (is_text (codes "drop") does) (drop_line place n d) discard in
     let frame = cond (is_text (codes "frame") does) (frame_line place n d) drop in
     let hear = cond (is_text (codes "hear") does) (hear_line place n d) frame in
@@ -397,7 +426,9 @@ line_fits place n d l e =
     let settled : settle ≡ Ok l → LineFits n l = either (LineFits n) (is_text (codes "settle") does) (settle_line place d) show l (settle_fits place n d l) shown in
     let sent : raw ≡ Ok l → LineFits n l = either (LineFits n) (is_text (codes "raw") does) (raw_line place n d) settle l (raw_fits place n d l) settled in
     let ended : kill ≡ Ok l → LineFits n l = either (LineFits n) (is_text (codes "kill") does) (kill_line place n d) raw l (kill_fits place n d l) sent in
-    let discarded : discard ≡ Ok l → LineFits n l = either (LineFits n) (is_text (codes "discard") does) (discard_line place d) kill l (discard_fits place n d l) ended in
+    let subscribed : subscribe ≡ Ok l → LineFits n l = either (LineFits n) (is_text (codes "subscribe") does) (subscribe_line place n d) kill l (subscribe_fits place n d l) ended in
+    let opened : tab ≡ Ok l → LineFits n l = either (LineFits n) (is_text (codes "tab") does) (tab_line place n d) subscribe l (tab_line_fits place n d l) subscribed in
+    let discarded : discard ≡ Ok l → LineFits n l = either (LineFits n) (is_text (codes "discard") does) (discard_line place d) tab l (discard_fits place n d l) opened in
     let dropped : drop ≡ Ok l → LineFits n l = either (LineFits n) (is_text (codes "drop") does) (drop_line place n d) discard l (drop_fits place n d l) discarded in
     let framed : frame ≡ Ok l → LineFits n l = either (LineFits n) (is_text (codes "frame") does) (frame_line place n d) drop l (frame_fits place n d l) dropped in
     let heard : hear ≡ Ok l → LineFits n l = either (LineFits n) (is_text (codes "hear") does) (hear_line place n d) frame l (hear_fits place n d l) framed in

@@ -20,6 +20,8 @@ object_keys kinds.Set = codes "do" ∷ codes "at" ∷ codes "context" ∷ codes 
 object_keys kinds.Take = codes "do" ∷ codes "at" ∷ []
 object_keys kinds.Hear = codes "do" ∷ codes "at" ∷ codes "from" ∷ []
 object_keys kinds.OneContext = codes "do" ∷ codes "at" ∷ codes "context" ∷ []
+object_keys kinds.OpenTab = codes "do" ∷ codes "at" ∷ codes "owner" ∷ codes "group" ∷ []
+object_keys kinds.Subscribe = codes "do" ∷ codes "at" ∷ codes "process" ∷ codes "group" ∷ []
 object_keys kinds.Kill = codes "do" ∷ codes "at" ∷ codes "process" ∷ []
 object_keys kinds.Raw =
     codes "do" ∷ codes "at" ∷ codes "epoch" ∷ codes "seen" ∷ codes "parts" ∷ []

@@ -13,7 +13,8 @@ use Rattle.fission_ids.specs.declared.process.ProcId.{ProcId}
 use Rattle.fission_ids.specs.declared.process.ProcSet.{ProcSet}
 use Rattle.fission_ids.specs.ProcSet.{with}
 use Rattle.fission_ids.specs.declared.context.ContextId.{ContextId}
-use Rattle.fission_ids.specs.Ids.{context_of}
+use Rattle.fission_ids.specs.declared.group.GroupId.{GroupId}
+use Rattle.fission_ids.specs.Ids.{context_of, group_of}
 use Rattle.field_table.specs.declared.field.Field.{Field}
 use Rattle.field_table.specs.declared.value.Value.{Value}
 use Rattle.field_table.specs.declared.value.ValueFault.{ValueFault}
@@ -117,6 +118,15 @@ actor_of place n found =
 unfoldable pub context_at : ℕ → Option Data → Result ContextId ReadFault
 context_at place found = or_shape place (option_and_then context_of (option_and_then as_str found))
 
+-- the group that a member names
+unfoldable pub group_at : ℕ → Option Data → Result GroupId ReadFault
+group_at place found = or_shape place (option_and_then group_of (option_and_then as_str found))
+
+-- the group that a member names, if it is there
+unfoldable pub group_named : ℕ → Option Data → Result (Option GroupId) ReadFault
+group_named place None = Ok None
+group_named place (Some d) = group_at place (Some d) >>= λ g. Ok (Some g)
+
 -- the value of a field, or a fault of shape where the field takes no such value
 abbrev pub or_no_value : ℕ → Result Value ValueFault → Result Value ReadFault
 or_no_value place (Ok v) = Ok v
@@ -198,6 +208,24 @@ discard_line place d =
     (asks place (is_text (codes "parent") (get (codes "at") d))
     (context_at place (get (codes "context") d) >>= λ context.
     Ok (lines.Step (steps.ParentAct (parents.Discard context)))))
+
+-- a tab that the parent opens
+unfoldable pub tab_line : ℕ → ℕ → Data → Result Line ReadFault
+tab_line place n d =
+    asks place (has_only (allows kinds.OpenTab) d)
+    (asks place (is_text (codes "parent") (get (codes "at") d))
+    (process_of place n (get (codes "owner") d) >>= λ p.
+    group_named place (get (codes "group") d) >>= λ g.
+    Ok (lines.Step (steps.ParentAct (parents.Tab p g)))))
+
+-- a process that the parent subscribes to a group
+unfoldable pub subscribe_line : ℕ → ℕ → Data → Result Line ReadFault
+subscribe_line place n d =
+    asks place (has_only (allows kinds.Subscribe) d)
+    (asks place (is_text (codes "parent") (get (codes "at") d))
+    (process_of place n (get (codes "process") d) >>= λ p.
+    group_at place (get (codes "group") d) >>= λ g.
+    Ok (lines.Step (steps.ParentAct (parents.Subscribe p g)))))
 
 -- a process that the parent ends
 unfoldable pub kill_line : ℕ → ℕ → Data → Result Line ReadFault
@@ -305,11 +333,13 @@ line_of place n d =
     else (if is_text (codes "frame") (get (codes "do") d) then frame_line place n d
     else (if is_text (codes "drop") (get (codes "do") d) then drop_line place n d
     else (if is_text (codes "discard") (get (codes "do") d) then discard_line place d
+    else (if is_text (codes "tab") (get (codes "do") d) then tab_line place n d
+    else (if is_text (codes "subscribe") (get (codes "do") d) then subscribe_line place n d
     else (if is_text (codes "kill") (get (codes "do") d) then kill_line place n d
     else (if is_text (codes "raw") (get (codes "do") d) then raw_line place n d
     else (if is_text (codes "settle") (get (codes "do") d) then settle_line place d
     else (if is_text (codes "show") (get (codes "do") d) then show_line place n d
-    else Err (Shape place))))))))))
+    else Err (Shape place))))))))))))
 
 -- the steps from this place on, of which there are at most 20,000
 unfoldable pub lines_of : ℕ → ℕ → Items → Result (List Line) ReadFault

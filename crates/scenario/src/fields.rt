@@ -7,13 +7,13 @@ ghost use Rattle.field_table.specs.Value.{is_of};
 ghost use Rattle.fission_ids.specs.Gives.{Gives, GivesBy};
 ghost use Rattle.scenario.specs.Faults.{is_memory, or_shape};
 ghost use Rattle.scenario.specs.Members.{data_found};
-ghost use Rattle.scenario.specs.Reading.{context_at, field_of, transaction_of};
+ghost use Rattle.scenario.specs.Reading.{context_at, group_at, field_of, transaction_of};
 ghost use Rattle.scenario.specs.Reading.{named_changes, named_change, or_no_value};
 
 use crate::fault::ReadFault;
 use crate::members::has_member;
 use field_table::{Field, ValueFault};
-use fission_ids::ContextId;
+use fission_ids::{ContextId, GroupId};
 use serde_json::{Map, Value};
 use std::alloc::Global;
 use transaction::Transaction;
@@ -26,6 +26,17 @@ pub fn context_at(place: u32, found: Option<&Value>) -> Result<ContextId, ReadFa
     match found.and_then(Value::as_str).and_then(ContextId::parse) {
         None => Err(ReadFault::Shape { place }),
         Some(context) => Ok(context),
+    }
+}
+
+/// The group that a member names.
+#[tactic(auto, unfolding(crate::specs::Reading::group_at))]
+pub fn group_at(place: u32, found: Option<&Value>) -> Result<GroupId, ReadFault>
+    ensures { Gives is_memory result (group_at place (data_found found.entry)) }
+{
+    match found.and_then(Value::as_str).and_then(GroupId::parse) {
+        None => Err(ReadFault::Shape { place }),
+        Some(group) => Ok(group),
     }
 }
 

@@ -6,6 +6,7 @@
 
 mod fault;
 mod fields;
+mod groups;
 mod line;
 mod members;
 mod processes;

@@ -22,6 +22,10 @@ pub enum Kind {
     Hear,
     /// A step that speaks of a context and nothing else.
     OneContext,
+    /// A step that opens a tab.
+    OpenTab,
+    /// A step that subscribes a process to a group.
+    Subscribe,
     /// A step that ends a process.
     Kill,
     /// A step that sends a bundle as it's written.
@@ -69,6 +73,8 @@ fn allows(kind: Kind, key: &str) -> bool
         Kind::Take => key == "do" || key == "at",
         Kind::Hear => key == "do" || key == "at" || key == "from",
         Kind::OneContext => key == "do" || key == "at" || key == "context",
+        Kind::OpenTab => key == "do" || key == "at" || key == "owner" || key == "group",
+        Kind::Subscribe => key == "do" || key == "at" || key == "process" || key == "group",
         Kind::Kill => key == "do" || key == "at" || key == "process",
         Kind::Raw => {
             key == "do" || key == "at" || key == "epoch" || key == "seen" || key == "parts"

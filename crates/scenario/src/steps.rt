@@ -9,6 +9,7 @@ ghost use Rattle.scenario.specs.Reading.{show_line, show_side, show_one};
 
 use crate::fault::ReadFault;
 use crate::fields::{context_at, field_of, transaction_of};
+use crate::groups::{subscribe_line, tab_line};
 use crate::line::{Actor, Line, Show};
 use crate::members::{Kind, has_only, is_text};
 use crate::processes::process_of;
@@ -58,6 +59,10 @@ fn line_of(alloc: Global, place: u32, count: u8, v: &Value) -> Result<Line, Read
         drop_line(place, count, v)
     } else if is_text(v.get("do"), "discard") {
         discard_line(place, v)
+    } else if is_text(v.get("do"), "tab") {
+        tab_line(place, count, v)
+    } else if is_text(v.get("do"), "subscribe") {
+        subscribe_line(place, count, v)
     } else if is_text(v.get("do"), "kill") {
         kill_line(place, count, v)
     } else if is_text(v.get("do"), "raw") {

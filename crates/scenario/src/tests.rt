@@ -1,6 +1,6 @@
 use super::*;
 use field_table::{Field, Value};
-use fission_ids::{ContextId, Duplicate, ProcId, ProcSet};
+use fission_ids::{ContextId, Duplicate, GroupId, ProcId, ProcSet};
 use journal::Step;
 use std::alloc::{AllocError, Global};
 use std::test::Fail;
@@ -57,7 +57,10 @@ const MOST: &str = r#"{
             {"part": "ack", "context": "c1.9"}
         ]},
         {"at": "parent", "do": "show"},
-        {"do": "show"}
+        {"do": "show"},
+        {"at": "parent", "do": "tab", "owner": 2},
+        {"at": "parent", "do": "tab", "owner": 0, "group": "g4294967295"},
+        {"at": "parent", "do": "subscribe", "process": 1, "group": "g3"}
     ]
 }"#;
 
@@ -163,8 +166,8 @@ fn a_scenario_with_most_in_it(rt: HostRuntime) -> Result<(), Fail> {
         "18446744073709551615 3 2 7 'b' - - - - - - true - - - - - - - -"
     );
     assert!(rt; matches!(settle, Line::Settle));
-    let [frame, drop, discard, parts, side, all] = trees else {
-        return Err("six steps stand behind them")?;
+    let [frame, drop, discard, parts, side, all, tab, here, join] = trees else {
+        return Err("nine steps stand behind them")?;
     };
     assert_eq!(rt; framed(frame), Some((2, id(0, 1))));
     assert_eq!(rt; dropped(drop), Some((0, id(3, 1))));
@@ -172,6 +175,12 @@ fn a_scenario_with_most_in_it(rt: HostRuntime) -> Result<(), Fail> {
     assert!(rt; sends_three_parts(parts));
     assert_eq!(rt; shown(side), Some(Show::Side { who: Actor::Parent }));
     assert_eq!(rt; shown(all), Some(Show::All));
+    assert_eq!(rt; joined(tab), Some((ProcId(2), None)));
+    assert_eq!(rt;
+        joined(here),
+        Some((ProcId(0), Some(GroupId(4_294_967_295))))
+    );
+    assert_eq!(rt; joined(join), Some((ProcId(1), Some(GroupId(3)))));
     Ok(())
 }
 
@@ -201,6 +210,23 @@ fn dropped(line: &Line) -> Option<(u8, ContextId)> {
                 action: Action::Drop { context },
             },
         ) => Some((p.0, *context)),
+        _ => None,
+    }
+}
+
+// The process that owns a new tab or joins a group, and the group.
+fn joined(line: &Line) -> Option<(ProcId, Option<GroupId>)> {
+    match line {
+        Line::Step(
+            Step::ParentAct {
+                action: ParentAction::Tab { owner, group },
+            },
+        ) => Some((*owner, *group)),
+        Line::Step(
+            Step::ParentAct {
+                action: ParentAction::Subscribe { process, group },
+            },
+        ) => Some((*process, Some(*group))),
         _ => None,
     }
 }
@@ -384,6 +410,20 @@ const STEPS: &str = r#"7
 {"do":"discard","at":0,"context":"c0.1"}
 {"do":"discard","at":"parent","context":"c17.1"}
 {"do":"discard","at":"parent","context":"c0.1","process":0}
+{"do":"tab","owner":0}
+{"do":"tab","at":"parent"}
+{"do":"tab","at":0,"owner":0}
+{"do":"tab","at":"parent","owner":2}
+{"do":"tab","at":"parent","owner":0,"group":null}
+{"do":"tab","at":"parent","owner":0,"group":"g0"}
+{"do":"tab","at":"parent","owner":0,"process":0}
+{"do":"subscribe","process":0,"group":"g1"}
+{"do":"subscribe","at":"parent","group":"g1"}
+{"do":"subscribe","at":"parent","process":0}
+{"do":"subscribe","at":0,"process":0,"group":"g1"}
+{"do":"subscribe","at":"parent","process":2,"group":"g1"}
+{"do":"subscribe","at":"parent","process":0,"group":1}
+{"do":"subscribe","at":"parent","process":0,"group":"g1","owner":0}
 {"do":"kill","at":"parent"}
 {"do":"kill","process":0}
 {"do":"kill","at":0,"process":0}

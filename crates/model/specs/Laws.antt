@@ -246,8 +246,8 @@ pub record IsWithout (r : Run) (p : ℕ) (x : ContextId) : Type 0 where
   pub told : is_told (facts_now r.config (moments_of r.config r.journal)) p x ≡ true
   pub unheld : (seen_now r.config p (moments_of r.config r.journal)).holds x ≡ false
 
--- then a Create or a Register of it waits for the process, or a Drop of it or of a context above it waits from
--- the process
+-- then a Create or a Register of it waits for the process, or a Drop of it or of a context above it waits
+-- from the process
 abbrev pub WhatIsToldComes : Type 0
 WhatIsToldComes = (r : Run) (p : ℕ) (x : ContextId) → IsWithout r p x →
     let ms = moments_of r.config r.journal in

@@ -1,5 +1,5 @@
--- How contexts are found in the bundles of a process and in those of the parent: what each bundle makes, brings,
--- drops and hands over.
+-- How contexts are found in the bundles of a process and in those of the parent: what each bundle makes,
+-- brings, drops and hands over.
 use Rattle.std.specs.Prelude.{ℕ, ◌+◌, ◌==◌, Bool, true, false, not, ◌&&◌, ◌||◌, if◌then◌else◌}
 use Rattle.std.specs.Prelude.{List, [], ◌∷◌, ◌++◌}
 use Rattle.std.specs.List.{list_any}

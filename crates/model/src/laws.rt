@@ -89,8 +89,8 @@ pub fn what_is_told_comes()
     ensures { WhatIsToldComes }
 {}
 
-/// Where no such Drop waits, it comes with the parent's present values and ownership, by the Create or Register
-/// and all that waits behind it.
+/// Where no such Drop waits, it comes with the parent's present values and ownership, by the Create or
+/// Register and all that waits behind it.
 pub fn what_comes_is_the_parents()
     ensures { WhatComesIsTheParents }
 {}

@@ -12,5 +12,4 @@ pub mod Shows
 pub mod Quiet
 pub mod Changed
 pub mod Projection
-pub mod Program
 pub mod Comings

@@ -97,8 +97,9 @@ abbrev pub StageIsServed : Type 0 → Type 0
 StageIsServed V = (start : Start V) (h : Trace V) → Keeps start h → is_ended h ≡ false →
     bundles_waiting h ≡ [] → stage start.stage h ≡ stage_served start.stage h
 
--- where a context hasn't come to a process that wasn't ended, or was left by it, and the parent serves it, what
--- waits to be taken brings it with the parent's value: from nothing, taken one after the other, it shows that
+-- where a context hasn't come to a process that wasn't ended, or was left by it, and the parent serves it,
+-- what waits to be taken brings it with the parent's value: from nothing, taken one after the other, it shows
+-- that
 abbrev pub ComingsBringTheValue : Type 0 → Type 0
 ComingsBringTheValue V = (start : Start V) (h : Trace V) → Keeps start h → is_ended h ≡ false →
     stage start.stage h ≡ Coming → stage_served start.stage h ≡ Held →

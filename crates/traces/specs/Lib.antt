@@ -6,4 +6,3 @@ pub mod Rules
 pub mod Replay
 pub mod Laws
 pub mod Runs
-pub mod Program

@@ -36,8 +36,8 @@ pub fn stage_is_served<V>()
     ensures { StageIsServed V }
 {}
 
-/// Where a context hasn't come to a process that wasn't ended, or was left by it, and the parent serves it, what
-/// waits to be taken brings it with the parent's value.
+/// Where a context hasn't come to a process that wasn't ended, or was left by it, and the parent serves it,
+/// what waits to be taken brings it with the parent's value.
 pub fn comings_bring_the_value<V>()
     ensures { ComingsBringTheValue V }
 {}

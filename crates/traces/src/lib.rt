@@ -4,32 +4,10 @@
 //! delivered.
 #![tactic(auto)]
 
-mod epochs;
-mod events;
 mod laws;
-mod looking;
 
-pub use epochs::{Epochs, replay};
-pub use events::{Bundle, Content, Event, Stage, Start};
 pub use laws::{
     changes_behind_the_point_wait, comings_bring_the_value, point_never_falls,
     projection_keeps_the_rules, quiet_shows_the_parent, replay_shows_the_view,
     revert_taken_shows_the_parent, reverts_wait, stage_is_served, worked_runs,
 };
-pub use looking::{Fate, fate_of_write, has_taken, value_at, view};
-
-#[cfg(test)]
-mod tests;
-
-fn crosses<T: Send + Sync>() {}
-
-// The types of this crate may go to another thread, and be shared.
-fn types_cross() {
-    crosses::<Content>();
-    crosses::<Bundle>();
-    crosses::<Event>();
-    crosses::<Stage>();
-    crosses::<Start>();
-    crosses::<Epochs>();
-    crosses::<Fate>();
-}

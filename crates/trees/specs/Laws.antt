@@ -40,7 +40,8 @@ ChildrenHaveOneOwner X W B = (look : Look X W B) (begin : Begin X) (h : List (Ev
 abbrev pub QuietOwnersAreTheParents : Type 0 → Type 0 → Type 0 → Type 0
 QuietOwnersAreTheParents X W B = (look : Look X W B) (begin : Begin X) (h : List (Event W B)) →
     Keeps look begin h → writes_waiting h ≡ [] → bundles_waiting h ≡ [] →
-    (x : X) → is_told look begin x h ≡ true → is_held (stage look begin x h) ≡ true → owns look begin x h ≡ owned look begin x h
+    (x : X) → is_told look begin x h ≡ true → is_held (stage look begin x h) ≡ true →
+    owns look begin x h ≡ owned look begin x h
 
 -- of a bundle that is heard of a process that wasn't ended: what it makes wasn't heard of, and what else it
 -- names was

@@ -60,8 +60,8 @@ pub fn missing_is_on_its_way<X, W, B>()
     ensures { MissingIsOnItsWay X W B }
 {}
 
-/// With a coming that waits the owner comes: behind all that waits, the process owns the context exactly where
-/// the parent has it as the owner.
+/// With a coming that waits the owner comes: behind all that waits, the process owns the context exactly
+/// where the parent has it as the owner.
 pub fn comings_bring_the_owner<X, W, B>()
     ensures { ComingsBringTheOwner X W B }
 {}
@@ -72,8 +72,8 @@ pub fn tops_come_once<X, W, B>()
     ensures { TopsComeOnce X W B }
 {}
 
-/// What makes or drops a context, as it is heard of a process that wasn't ended, is of one that the process is
-/// told of.
+/// What makes or drops a context, as it is heard of a process that wasn't ended, is of one that the process
+/// is told of.
 pub fn heard_is_told<X, W, B>()
     ensures { HeardIsTold X W B }
 {}

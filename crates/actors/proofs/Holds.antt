@@ -3,6 +3,7 @@ use Rattle.std.proofs.Common.{◌≡◌, ◌∙◌, refl, sym, ap, subst, ◌+�
 use Rattle.std.specs.Prelude.{find, is_some}
 use Rattle.std.specs.List.{count_by}
 use Rattle.std.specs.Option.{option_map}
+use Rattle.fission_ids.specs.Ids.{same_query}
 use Rattle.fission_ids.specs.declared.query.QueryId.{QueryId}
 use Rattle.fission_ids.specs.declared.window.WindowId.{WindowId}
 use Rattle.fission_ids.specs.declared.outcome.Outcome.TheVariants.{Aborted}
@@ -10,7 +11,7 @@ use Rattle.actor_registry.specs.declared.entry.Mode.{Mode}
 use Rattle.actor_registry.specs.declared.entry.Mode.TheVariants as modes
 use Rattle.queries.specs.declared.row.QState.TheVariants.{Settled}
 use Rattle.queries.specs.declared.row.QueryRow.{QueryRow}
-use Rattle.queries.specs.Row.{is_of, is_pending, same_query, settled}
+use Rattle.queries.specs.Row.{is_of, is_pending, settled}
 use Rattle.actors.specs.Side.{is_held_as, is_on, holder_of, is_held, is_ignored, after_mode, after_receive, HeldOnce, Side}
 use Rattle.actors.specs.Laws.{AnsweredQueriesAreHeldNoLonger, ClosedWindowsHoldNothing}
 use Rattle.actors.proofs.Lists.{one_if, no_truth, count_push, none_counted, count_left, none_left, find_left, find_same, never_found, none_changed}

@@ -1,10 +1,11 @@
 -- How long a query is held.
 use Rattle.std.specs.Prelude.{◌≡◌, ◌&&◌, if◌then◌else◌, None, Bool}
 use Rattle.std.specs.List.{count_by}
+use Rattle.fission_ids.specs.Ids.{same_query}
 use Rattle.fission_ids.specs.declared.query.QueryId.{QueryId}
 use Rattle.fission_ids.specs.declared.window.WindowId.{WindowId}
 use Rattle.actor_registry.specs.declared.entry.Mode.{Mode}
-use Rattle.queries.specs.Row.{is_of, is_pending, same_query}
+use Rattle.queries.specs.Row.{is_of, is_pending}
 use Rattle.actors.specs.Side.{after_answer, after_receive, after_teardown, holder_of, is_on}
 use Rattle.actors.specs.Side.{HeldOnce, Side}
 

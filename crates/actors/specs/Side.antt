@@ -3,13 +3,14 @@ use Rattle.std.specs.Prelude.{◌≤◌, ◌||◌, ◌++◌, [], ◌∷◌, filt
 use Rattle.std.specs.Prelude.{not, Bool, List, Option, ℕ}
 use Rattle.std.specs.List.{count_by}
 use Rattle.std.specs.Option.{option_map}
+use Rattle.fission_ids.specs.Ids.{same_query, same_window}
 use Rattle.fission_ids.specs.declared.query.QueryId.{QueryId}
 use Rattle.fission_ids.specs.declared.window.WindowId.{WindowId}
 use Rattle.fission_ids.specs.declared.outcome.Outcome.{Outcome}
 use Rattle.fission_ids.specs.declared.outcome.Outcome.TheVariants.{Aborted}
 use Rattle.actor_registry.specs.declared.entry.Mode.{Mode}
 use Rattle.actor_registry.specs.declared.entry.Mode.TheVariants as modes
-use Rattle.queries.specs.Row.{same_query, same_window, is_for, is_of}
+use Rattle.queries.specs.Row.{is_for, is_of}
 use Rattle.queries.specs.declared.row.QueryRow.{QueryRow}
 use Rattle.queries.specs.Table.{Asked, settle_where, with_query}
 use Rattle.actors.specs.declared.reaction.Reaction.{Reaction}

@@ -12,7 +12,7 @@ use Rattle.field_table.specs.Field.{fields}
 use Rattle.field_table.specs.Table.{value_in}
 use Rattle.epochs.specs.FieldEpochs.{epoch_of}
 use Rattle.context_store.specs.Content.{Content, content_code, is_there}
-use Rattle.context_tree.specs.Node.{Node}
+use Rattle.context_tree.specs.Node.{Node, node_code}
 use Rattle.context_tree.specs.Tree.{IsTree, contexts, is_held, parent_in, is_under}
 use Rattle.protocol.specs.Seen.{Seen}
 use Rattle.content_core.specs.declared.hold.Hold.{Hold}
@@ -38,17 +38,7 @@ pub record Kept : Type 0 where
   pub frames_made : ℕ
   pub running : Bool
 
--- a node is stored as the context and those above it
-abbrev pub node_code : Coded Node
-node_code =
-    code_by
-    (ContextId × List ContextId)
-    (coded× context.the_row.coded (coded_list context.the_row.coded))
-    (λ n. (n.context, n.above))
-    (λ t. record { context = t.0; above = t.1 })
-    (λ _. refl)
-
--- and the whole as the tuple of its parts
+-- the whole is stored as the tuple of its parts
 abbrev pub kept_code : Coded Kept
 kept_code =
     code_by

@@ -39,7 +39,7 @@ impl Marked {
     pub(crate) fn mark(&mut self, s: FieldSet, e: Epoch)
         ensures { self.new ≡ epochs_after s e self.old }
     {
-        number_in(&mut self.numbers, s, e.0);
+        renumber(&mut self.numbers, s, e.0);
         self.mask = self.mask.union(s);
     }
 
@@ -73,7 +73,8 @@ impl Duplicate for Marked {
     }
 }
 
-fn number_in(numbers: &mut [u64], s: FieldSet, n: u64)
+// Each field of the set gets the number.
+fn renumber(numbers: &mut [u64], s: FieldSet, n: u64)
     requires { length numbers.old ≡ length fields }
     ensures { numbers.new ≡ numbers_after s n numbers.old }
 {

@@ -1,14 +1,26 @@
 -- Contexts in a tree, each with those above it.
-use Rattle.std.specs.Prelude.{◌||◌, Bool, false, List, ◌∷◌, Option, Some, slice_get, is_none}
+use Rattle.std.specs.Prelude.{◌||◌, Bool, false, List, ◌∷◌, Option, Some, slice_get, is_none, refl}
+use Rattle.std.specs.Coded.{Coded, code_by, coded×, coded_list}
 use Rattle.std.specs.List.{list_any, last_or}
 use Rattle.std.specs.Option.{option_map_or}
 use Rattle.fission_ids.specs.declared.context.ContextId.{ContextId}
+use Rattle.fission_ids.specs.contracts.context.ContextId as context
 use Rattle.fission_ids.specs.Ids.{same_context}
 
 -- a context, and those above it, the nearest first
 pub record Node : Type 0 where
   pub context : ContextId
   pub above : List ContextId
+
+-- a node is stored as the context and those above it
+abbrev pub node_code : Coded Node
+node_code =
+    code_by
+    (ContextId × List ContextId)
+    (coded× context.the_row.coded (coded_list context.the_row.coded))
+    (λ n. (n.context, n.above))
+    (λ p. record { context = p.0; above = p.1 })
+    (λ _. refl)
 
 -- the context and those above it
 abbrev pub line : Node → List ContextId

@@ -108,3 +108,11 @@ group_of text =
 -- whether two ids are of one context
 abbrev pub same_context : ContextId → ContextId → Bool
 same_context x y = x.creator == y.creator && x.serial == y.serial
+
+-- or of one window
+abbrev pub same_window : WindowId → WindowId → Bool
+same_window v w = v.creator == w.creator && v.serial == w.serial
+
+-- or of one query
+abbrev pub same_query : QueryId → QueryId → Bool
+same_query p q = p.creator == q.creator && p.serial == q.serial

@@ -3,7 +3,7 @@ use Rattle.std.specs.Prelude.{ℕ, List, refl}
 use Rattle.std.specs.Coded.{Coded, code_by, coded×, coded_list, coded_ℕ}
 use Rattle.fission_ids.specs.declared.context.ContextId.{ContextId}
 use Rattle.fission_ids.specs.contracts.context.ContextId as context
-use Rattle.context_tree.specs.Node.{Node}
+use Rattle.context_tree.specs.Node.{Node, node_code}
 use Rattle.context_group.specs.declared.group.Group.{Group}
 use Rattle.context_group.specs.contracts.group.Group as group
 use Rattle.context_store.specs.Content.{Content, content_code}
@@ -33,16 +33,6 @@ end_code =
     (coded× coded_ℕ cause.the_row.coded)
     (λ e. (e.process, e.cause))
     (λ p. record { process = p.0; cause = p.1 })
-    (λ _. refl)
-
--- a node as its context and those above it
-abbrev pub node_code : Coded Node
-node_code =
-    code_by
-    (ContextId × List ContextId)
-    (coded× context.the_row.coded (coded_list context.the_row.coded))
-    (λ n. (n.context, n.above))
-    (λ p. record { context = p.0; above = p.1 })
     (λ _. refl)
 
 -- what is kept of the contexts

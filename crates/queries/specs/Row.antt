@@ -1,18 +1,12 @@
 -- A query that was asked.
-use Rattle.std.specs.Prelude.{◌==◌, ◌&&◌, Bool, true, false, if◌then◌else◌}
+use Rattle.std.specs.Prelude.{Bool, true, false, if◌then◌else◌}
+use Rattle.fission_ids.specs.Ids.{same_query, same_window}
 use Rattle.fission_ids.specs.declared.outcome.Outcome.{Outcome}
 use Rattle.fission_ids.specs.declared.query.QueryId.{QueryId}
 use Rattle.fission_ids.specs.declared.window.WindowId.{WindowId}
 use Rattle.queries.specs.declared.row.QState.{QState}
 use Rattle.queries.specs.declared.row.QState.TheVariants.{Pending, Settled}
 use Rattle.queries.specs.declared.row.QueryRow.{QueryRow}
-
--- whether two ids are the same
-abbrev pub same_query : QueryId → QueryId → Bool
-same_query x y = x.creator == y.creator && x.serial == y.serial
-
-abbrev pub same_window : WindowId → WindowId → Bool
-same_window x y = x.creator == y.creator && x.serial == y.serial
 
 -- whether a row is that of this query
 abbrev pub is_for : QueryId → QueryRow → Bool

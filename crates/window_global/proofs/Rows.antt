@@ -4,12 +4,12 @@ use Rattle.std.specs.Prelude.{find, is_some, option_and_then}
 use Rattle.std.specs.List.{count_by}
 use Rattle.std.specs.Map.{lookup, set_value}
 use Rattle.std.specs.Option.{option_map, option_map_or}
-use Rattle.fission_ids.specs.Ids.{same_context}
+use Rattle.fission_ids.specs.Ids.{same_context, same_window}
 use Rattle.fission_ids.specs.declared.context.ContextId.{ContextId}
 use Rattle.fission_ids.specs.declared.window.WindowId.{WindowId}
 use Rattle.url.specs.Parts.{Parts}
 use Rattle.window_global.specs.declared.row.WindowRow.{WindowRow}
-use Rattle.window_global.specs.Windows.{same_window, is_at, is_open_for, row_of, is_made, is_live, open_context, live_of, closed, windows_after_closing, windows_after_close, windows_without_open, windows_after_begin, AreSound}
+use Rattle.window_global.specs.Windows.{is_at, is_open_for, row_of, is_made, is_live, open_context, live_of, closed, windows_after_closing, windows_after_close, windows_without_open, windows_after_begin, AreSound}
 use Rattle.window_global.specs.Kept.{key_of, rows_in, entries_of, AreTied, AreKept}
 use Rattle.window_global.proofs.Lists.{first_of, one_if, at_most, same_some, never_found, find_only, no_truth, find_push, count_push, found_passes, none_counted, find_same, count_fewer, find_beside, find_neither, none_changed, changed_same, changed_nothing, find_changed, count_changed}
 

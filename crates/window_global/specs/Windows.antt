@@ -1,17 +1,13 @@
 -- Windows: which were made, for which contexts, and which are open.
-use Rattle.std.specs.Prelude.{◌≤◌, ◌==◌, ◌&&◌, if◌then◌else◌, [], ◌∷◌, ◌++◌, false, find, is_some}
+use Rattle.std.specs.Prelude.{◌≤◌, ◌&&◌, if◌then◌else◌, [], ◌∷◌, ◌++◌, false, find, is_some}
 use Rattle.std.specs.Prelude.{map, not, option_and_then, Bool, List, None, Option, Some}
 use Rattle.std.specs.List.{count_by}
 use Rattle.std.specs.Option.{option_map, option_map_or}
-use Rattle.fission_ids.specs.Ids.{same_context}
+use Rattle.fission_ids.specs.Ids.{same_context, same_window}
 use Rattle.fission_ids.specs.declared.context.ContextId.{ContextId}
 use Rattle.fission_ids.specs.declared.window.WindowId.{WindowId}
 use Rattle.url.specs.Parts.{Parts}
 use Rattle.window_global.specs.declared.row.WindowRow.{WindowRow}
-
--- whether two ids are of one window
-abbrev pub same_window : WindowId → WindowId → Bool
-same_window v w = v.creator == w.creator && v.serial == w.serial
 
 -- whether a row is that of a window
 abbrev pub is_at : WindowId → WindowRow → Bool

@@ -4,8 +4,8 @@ use Rattle.field_table.specs.declared.field.Field.{Field}
 use Rattle.field_table.specs.Field.{number}
 use Rattle.field_table.specs.FieldSet.{has}
 use Rattle.field_table.proofs.Filling.{filled_more, filled_same, filled_all}
-use Rattle.context_store.proofs.marked.number_in.Goals as goal
-use Rattle.context_store.proofs.marked.number_in.Goals.{then-has, else-has}
+use Rattle.context_store.proofs.marked.renumber.Goals as goal
+use Rattle.context_store.proofs.marked.renumber.Goals.{then-has, else-has}
 
 in_set : (b r : Bool) (n old : ℕ) → r ≡ b → r ≡ true → n ≡ (if b then n else old)
 in_set true r n old same test = refl

@@ -19,9 +19,6 @@ pub use fault::ReadFault;
 pub use line::{Actor, Line, Scenario, Show};
 pub use reading::read;
 
-#[cfg(test)]
-mod tests;
-
 fn crosses<T: Send + Sync>() {}
 
 // The types of this crate may go to another thread, and be shared.

@@ -1,5 +1,6 @@
 ghost use Rattle.std.specs.Prelude.{◌≡◌, Bool, string_bytes};
-ghost use Rattle.std.specs.List.{list_all};
+ghost use Rattle.std.specs.List.{list_all, list_any};
+ghost use Rattle.std.specs.Str.{bytes_eq};
 ghost use Rattle.std.specs.BTreeMap.{keys};
 ghost use Rattle.serde_json.specs.View.{view, members_view};
 ghost use Rattle.scenario.specs.Members.{allows, data_found};
@@ -67,25 +68,29 @@ fn allows(kind: Kind, key: &str) -> bool
     ensures { result ≡ allows kind key.now }
 {
     match kind {
-        Kind::Top => key == "version" || key == "processes" || key == "tabs" || key == "steps",
-        Kind::Tab => key == "owner" || key == "also",
-        Kind::Set => key == "do" || key == "at" || key == "context" || key == "fields",
-        Kind::Take => key == "do" || key == "at",
-        Kind::Hear => key == "do" || key == "at" || key == "from",
-        Kind::OneContext => key == "do" || key == "at" || key == "context",
-        Kind::OpenTab => key == "do" || key == "at" || key == "owner" || key == "group",
-        Kind::Subscribe => key == "do" || key == "at" || key == "process" || key == "group",
-        Kind::Kill => key == "do" || key == "at" || key == "process",
-        Kind::Raw => {
-            key == "do" || key == "at" || key == "epoch" || key == "seen" || key == "parts"
-        }
-        Kind::CommitPart => key == "part" || key == "context" || key == "fields",
-        Kind::CreatePart => key == "part" || key == "context" || key == "parent",
-        Kind::ContextPart => key == "part" || key == "context",
-        Kind::Settle | Kind::ShowAll => key == "do",
-        Kind::ShowOne => key == "do" || key == "at" || key == "context" || key == "field",
-        Kind::ShowSide => key == "do" || key == "at",
+        Kind::Top => is_among(&["version", "processes", "tabs", "steps"], key),
+        Kind::Tab => is_among(&["owner", "also"], key),
+        Kind::Set => is_among(&["do", "at", "context", "fields"], key),
+        Kind::Take => is_among(&["do", "at"], key),
+        Kind::Hear => is_among(&["do", "at", "from"], key),
+        Kind::OneContext => is_among(&["do", "at", "context"], key),
+        Kind::OpenTab => is_among(&["do", "at", "owner", "group"], key),
+        Kind::Subscribe => is_among(&["do", "at", "process", "group"], key),
+        Kind::Kill => is_among(&["do", "at", "process"], key),
+        Kind::Raw => is_among(&["do", "at", "epoch", "seen", "parts"], key),
+        Kind::CommitPart => is_among(&["part", "context", "fields"], key),
+        Kind::CreatePart => is_among(&["part", "context", "parent"], key),
+        Kind::ContextPart => is_among(&["part", "context"], key),
+        Kind::Settle | Kind::ShowAll => is_among(&["do"], key),
+        Kind::ShowOne => is_among(&["do", "at", "context", "field"], key),
+        Kind::ShowSide => is_among(&["do", "at"], key),
     }
+}
+
+fn is_among(keys: &[&str], key: &str) -> bool
+    ensures { result ≡ list_any (λ each. bytes_eq key.now each.now) keys.now }
+{
+    keys.iter().any(|each| key == *each)
 }
 
 /// Whether an object has a member.

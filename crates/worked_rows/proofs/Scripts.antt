@@ -4,7 +4,7 @@ use Rattle.std.specs.List.{flat_map}
 use Rattle.std.proofs.lemmas.List.Concat.{flat_map-append}
 use Rattle.worked_rows.specs.declared.script.Piece.{Piece}
 use Rattle.worked_rows.specs.declared.script.Piece.TheVariants.{Plain, Times, Numbered}
-use Rattle.worked_rows.specs.Script.{mark_text, piece_text, script_text, times, numbered}
+use Rattle.worked_rows.specs.Script.{line_text, mark_text, piece_text, script_text, times, numbered}
 
 -- ---- how a script is written
 
@@ -18,6 +18,15 @@ times_marked n s count piece mark e1 e2 e3 = marked_as n s (codes " times ") cou
 pub numbered_marked : (n : ℕ) (s : String Global) (count piece mark : List ℕ) → count ≡ decimal n → string_bytes s ≡ piece → mark ≡ count ++ (codes " numbered " ++ piece) → piece_text (Numbered n s) ≡ mark_text mark
 unfolding piece_text
 numbered_marked n s count piece mark e1 e2 e3 = marked_as n s (codes " numbered ") count piece mark e1 e2 e3
+
+empty : (xs : List ℕ) → length xs ≡ 0 → xs ≡ []
+empty [] e = refl
+empty (x ∷ xs) e = absurd (cc)
+
+pub each_marked : (lines : List (String Global)) (front text mark : List ℕ) → length front ≡ 0 → mark ≡ front ++ (codes "each of\n" ++ text) → flat_map line_text lines ≡ codes "\n" ++ text
+    → mark_text (codes "each of" ++ flat_map line_text lines) ≡ mark_text mark
+each_marked lines front text mark none e1 e2 =
+    ap mark_text (ap (λ (l : List ℕ). codes "each of" ++ l) e2 ∙ sym (e1 ∙ ap (λ (f : List ℕ). f ++ (codes "each of\n" ++ text)) (empty front none)))
 
 plain_text : (s : String Global) → piece_text (Plain s) ≡ string_bytes s
 unfolding piece_text
@@ -46,6 +55,24 @@ last_one ps s rest text e so_far =
 
 pub shorter : (plain mark first behind rest : List ℕ) → rest ≡ plain ++ (codes "@" ++ first) → first ≡ mark ++ (codes "@" ++ behind) → length behind < length rest
 shorter plain mark first behind rest e1 e2 = omega (arith, ap length e1, ap length e2, length-append plain (codes "@" ++ first), length-append mark (codes "@" ++ behind))
+
+-- one line more of lines
+pub line_more : (lines : List (String Global)) (s : String Global) (line behind rest text : List ℕ) → string_bytes s ≡ line → rest ≡ line ++ (codes "\n" ++ behind)
+    → flat_map line_text lines ++ (codes "\n" ++ rest) ≡ codes "\n" ++ text → flat_map line_text (lines ++ s ∷ []) ++ (codes "\n" ++ behind) ≡ codes "\n" ++ text
+line_more lines s line behind rest text e1 e2 so_far =
+    ap (λ (l : List ℕ). l ++ (codes "\n" ++ behind)) (flat_map-append line_text lines (s ∷ []) ∙ ap (λ (l : List ℕ). flat_map line_text lines ++ l) (append-nil (line_text s) ∙ ap (λ (l : List ℕ). codes "\n" ++ l) e1))
+    ∙ append_assoc (flat_map line_text lines) (codes "\n" ++ line) (codes "\n" ++ behind)
+    ∙ ap (λ (l : List ℕ). flat_map line_text lines ++ (codes "\n" ++ l)) (sym e2)
+    ∙ so_far
+
+-- the last line
+pub last_line : (lines : List (String Global)) (s : String Global) (rest text : List ℕ) → string_bytes s ≡ rest
+    → flat_map line_text lines ++ (codes "\n" ++ rest) ≡ codes "\n" ++ text → flat_map line_text (lines ++ s ∷ []) ≡ codes "\n" ++ text
+last_line lines s rest text e so_far =
+    flat_map-append line_text lines (s ∷ []) ∙ ap (λ (l : List ℕ). flat_map line_text lines ++ l) (append-nil (line_text s) ∙ ap (λ (l : List ℕ). codes "\n" ++ l) e) ∙ so_far
+
+pub line_shorter : (line behind rest : List ℕ) → rest ≡ line ++ (codes "\n" ++ behind) → length behind < length rest
+line_shorter line behind rest e = omega (arith, ap length e, length-append line (codes "\n" ++ behind))
 
 -- ---- what it stands for
 

@@ -1,14 +1,15 @@
 //! What is told of the rows.
 
-ghost use Rattle.std.specs.Prelude.{◌≡◌, ◌++◌, IfOk, OnOk, map, string_bytes};
+ghost use Rattle.std.specs.Prelude.{◌≡◌, ◌<◌, ◌++◌, IfOk, OnOk, map, string_bytes};
 ghost use Rattle.edge.specs.Memory.{written_of};
 ghost use Rattle.scenario.specs.Fits.{Fits};
 ghost use Rattle.scenario.specs.Reading.{reading};
 ghost use Rattle.report.specs.Report.{text, place_text, player_bounds};
-ghost use Rattle.worked_rows.specs.Rows.{answer_text, differs, name_if_differs, names_of_differing};
+ghost use Rattle.worked_rows.specs.Rows.{answer_text, differs, name_if_differs, names_among, names_of_differing};
+ghost use Rattle.worked_rows.specs.Script.{count_of_texts};
 
 use crate::rows::Row;
-use crate::script::unfold;
+use crate::script::{count_texts, unfold};
 use anyhow::{Error, Result};
 use edge::{MemSink, write_all};
 use field_rules::Rules;
@@ -47,34 +48,46 @@ fn tell(alloc: Global, scenario: &str, sink: &mut MemSink) -> Result<()>
     }
 }
 
-fn differs(alloc: Global, row: &Row) -> Result<bool>
-    ensures { IfOk result (λ other. other ≡ differs row.now) }
+fn differs(alloc: Global, row: &Row, number: usize) -> Result<bool>
+    ensures { IfOk result (λ other. other ≡ differs row.now number) }
 {
-    let scenario = unfold(alloc, row.scenario.as_slice())?;
-    let report = unfold(alloc, row.report.as_slice())?;
+    let scenario = unfold(alloc, number, row.scenario.as_slice())?;
+    let report = unfold(alloc, number, row.report.as_slice())?;
     let mut sink = MemSink::new(alloc, Vec::new(alloc));
     tell(alloc, scenario.as_str(), &mut sink)?;
     Ok(sink.bytes() != report.as_bytes())
 }
 
-fn push_if_differs(alloc: Global, row: &Row, names: &mut Vec<String>) -> Result<()>
+fn push_if_differs(alloc: Global, row: &Row, k: usize, names: &mut Vec<String>) -> Result<()>
+    requires { k < usize.MAX }
     ensures { OnOk result (map string_bytes names.new.items ≡
-        map string_bytes names.old.items ++ name_if_differs row.now) }
+        map string_bytes names.old.items ++ name_if_differs row.now k) }
 {
-    if !differs(alloc, row)? {
+    if !differs(alloc, row, k)? {
         return Ok(());
     }
-    names.push(row.name.clone()?)?;
+    let number = k + 1;
+    names.push(format!(in alloc; "{} {number}", row.name)?)?;
     Ok(())
 }
 
-/// The names of the rows of which another report is told.
+fn push_differing(alloc: Global, row: &Row, names: &mut Vec<String>) -> Result<()>
+    ensures { OnOk result (map string_bytes names.new.items ≡
+        map string_bytes names.old.items ++ names_among row.now (count_of_texts row.now.scenario.items)) }
+{
+    for k in 0..count_texts(row.scenario.as_slice()) {
+        push_if_differs(alloc, row, k, names)?;
+    }
+    Ok(())
+}
+
+/// The names of the rows of which another report is told, each with the number of the scenario from 1.
 pub fn names_of_differing(alloc: Global, rows: &[Row]) -> Result<Vec<String>>
     ensures { IfOk result (λ names. map string_bytes names.items ≡ names_of_differing rows.now) }
 {
     let mut names = Vec::new(alloc);
     for row in rows {
-        push_if_differs(alloc, row, &mut names)?;
+        push_differing(alloc, row, &mut names)?;
     }
     Ok(names)
 }

@@ -29,9 +29,6 @@ use std::io::{Eprint, ErrorKind};
 use std::process::ExitCode;
 use std::{env, io};
 
-#[cfg(test)]
-mod tests;
-
 // The program's words. Where one isn't UTF-8 there are none, since no command line with it is the program's.
 fn words_of<R: Env + Alloc<A = Global>>(rt: &R) -> Result<Vec<String>, OutOfMemory> {
     let mut words = Vec::new(rt.alloc());

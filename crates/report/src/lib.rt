@@ -17,6 +17,3 @@ pub use lines::place_line;
 pub use playing::write_report;
 pub use rules::{full_zoom, text_zoom};
 pub use writing::{entry, head, last, settled, shown};
-
-#[cfg(test)]
-mod tests;

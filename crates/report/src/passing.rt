@@ -51,6 +51,7 @@ pub(crate) fn pass_piece<K: Sink>(
     ensures bytes { Passes (written_of pieces.old) (written_of pieces.new)
         (K.written sink.old) (K.written sink.new) result }
     ensures few { OnOk result (length (written_of pieces.new) < 65536) }
+    ensures waits { length (written_of pieces.old) < 65536 → sink.new ≡ sink.old }
     ensures faults { CountsFault (K.faults sink.old) (K.faults sink.new) result }
 {
     if pieces.bytes().len() < PIECE {

@@ -22,9 +22,6 @@ pub use note::{AskMark, FieldMark, FieldNote, LoadMark, Mark, PartNote};
 pub use part::{DownPart, Known, UpPart};
 pub use refusal::{Counted, Refusal};
 
-#[cfg(test)]
-mod tests;
-
 fn crosses<T: Send + Sync>() {}
 
 // The types of this crate may go to another thread, and be shared.

@@ -11,9 +11,6 @@ pub use admission::Facts;
 pub use entry::{Entry, Mode};
 pub use registry::{RegisterFault, Registry};
 
-#[cfg(test)]
-mod tests;
-
 fn crosses<T: Send + Sync>() {}
 
 // The types of this crate may go to another thread, and be shared.

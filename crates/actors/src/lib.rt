@@ -14,9 +14,6 @@ pub use laws::{
 pub use reaction::Reaction;
 pub use side::Actors;
 
-#[cfg(test)]
-mod tests;
-
 fn crosses<T: Send + Sync>() {}
 
 // The types of this crate may go to another thread, and be shared.

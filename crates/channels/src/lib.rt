@@ -6,9 +6,6 @@ mod link;
 
 pub use link::Link;
 
-#[cfg(test)]
-mod tests;
-
 fn crosses<T: Send + Sync>() {}
 
 // A link may go to another thread, and be shared, where its items may.

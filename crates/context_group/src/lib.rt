@@ -12,9 +12,6 @@ mod sets;
 pub use groups::{GroupFault, Groups};
 pub use laws::{ended_groups_stay_ended, groups_are_kept_until_ended, groups_await_where_owed};
 
-#[cfg(test)]
-mod tests;
-
 fn crosses<T: Send + Sync>() {}
 
 // The types of this crate may go to another thread, and be shared.

@@ -14,9 +14,6 @@ pub use ops::{StoreOp, StoreReply, run_ops};
 pub use slab_store::SlabStore;
 pub use store::{Store, others_stay};
 
-#[cfg(test)]
-mod tests;
-
 fn crosses<T: Send + Sync>() {}
 
 // The types of this crate may go to another thread, and be shared.

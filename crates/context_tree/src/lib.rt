@@ -15,9 +15,6 @@ pub use laws::{
 };
 pub use tree::Tree;
 
-#[cfg(test)]
-mod tests;
-
 fn crosses<T: Send + Sync>() {}
 
 // The types of this crate may go to another thread, and be shared.

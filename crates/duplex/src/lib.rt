@@ -13,9 +13,6 @@ pub use ends::{Full, Left, Rest, Right, close, pair};
 pub use lane::Stamped;
 pub use laws::slots_show_what_waits;
 
-#[cfg(test)]
-mod tests;
-
 fn sends<T: Send>() {}
 
 fn shares<T: Sync>() {}

@@ -11,9 +11,6 @@ pub use clock::{Clock, Worn};
 pub use field_epochs::FieldEpochs;
 pub use heard::{BadEpoch, Heard};
 
-#[cfg(test)]
-mod tests;
-
 fn crosses<T: Send + Sync>() {}
 
 // The types of this crate may go to another thread, and be shared.

@@ -17,9 +17,6 @@ pub use laws::{
 pub use rule::{Rule, Zoom};
 pub use rules::Rules;
 
-#[cfg(test)]
-mod tests;
-
 fn crosses<T: Send + Sync>() {}
 
 fn shares_value<T: Sync>(_value: &T) {}

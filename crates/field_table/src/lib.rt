@@ -16,9 +16,6 @@ pub use kind::Kind;
 pub use value::{Value, ValueFault};
 pub use verdict::Verdict;
 
-#[cfg(test)]
-mod tests;
-
 fn crosses<T: Send + Sync>() {}
 
 // The types of this crate may go to another thread, and be shared.

@@ -36,9 +36,6 @@ pub use text::Text;
 pub use why::Why;
 pub use window::WindowId;
 
-#[cfg(test)]
-mod tests;
-
 fn crosses<T: Send + Sync>() {}
 
 // The types of this crate may go to another thread, and be shared.

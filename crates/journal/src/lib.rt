@@ -8,9 +8,6 @@ mod journal;
 pub use entry::{Entry, Step};
 pub use journal::Journal;
 
-#[cfg(test)]
-mod tests;
-
 fn crosses<T: Send + Sync>() {}
 
 // The types of this crate may go to another thread, and be shared.

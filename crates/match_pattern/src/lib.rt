@@ -16,9 +16,6 @@ pub use fault::PatternFault;
 pub use laws::{faults_stand, patterns_are_spelled, stars_stand_for_any_run};
 pub use pattern::Pattern;
 
-#[cfg(test)]
-mod tests;
-
 fn crosses<T: Send + Sync>() {}
 
 // The types of this crate may go to another thread, and be shared.

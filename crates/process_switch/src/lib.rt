@@ -12,9 +12,6 @@ pub use laws::{choice_is_the_least, switch_leaves_the_owner};
 pub use plan::{Plan, plan_for};
 pub use remote::remote_type;
 
-#[cfg(test)]
-mod tests;
-
 fn crosses<T: Send + Sync>() {}
 
 // The types of this crate may go to another thread, and be shared.

@@ -9,9 +9,6 @@ mod table;
 pub use row::{QState, QueryRow};
 pub use table::QueryTable;
 
-#[cfg(test)]
-mod tests;
-
 fn crosses<T: Send + Sync>() {}
 
 // The types of this crate may go to another thread, and be shared.

@@ -20,6 +20,3 @@ pub use values::value_words;
 pub use views::{
     field_words, held_words, is_initial, owner_words, process_line_words, run_words, share_words,
 };
-
-#[cfg(test)]
-mod tests;

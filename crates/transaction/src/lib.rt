@@ -6,9 +6,6 @@ mod transaction;
 
 pub use transaction::{Split, Transaction};
 
-#[cfg(test)]
-mod tests;
-
 fn crosses<T: Send + Sync>() {}
 
 // The types of this crate may go to another thread, and be shared.

@@ -16,9 +16,6 @@ pub use laws::{
 pub use row::WindowRow;
 pub use windows::Windows;
 
-#[cfg(test)]
-mod tests;
-
 fn crosses<T: Send + Sync>() {}
 
 // The types of this crate may go to another thread, and be shared.

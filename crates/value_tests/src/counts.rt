@@ -1,4 +1,4 @@
-use super::*;
+use epochs::*;
 use field_table::{Field, FieldSet};
 use fission_ids::{Duplicate, Epoch};
 use std::test::Fail;

@@ -1,5 +1,5 @@
-use super::*;
 use fission_ids::{Duplicate, ProcId};
+use journal::*;
 use std::test::Fail;
 use wire_msgs::{Answer, Refusal};
 

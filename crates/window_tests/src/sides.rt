@@ -1,5 +1,5 @@
-use super::*;
 use actor_registry::Mode;
+use actors::*;
 use fission_ids::{Duplicate, OutOfMemory, Outcome, QueryId, Text, WindowId};
 use queries::QState;
 use std::alloc::Global;

@@ -1,7 +1,7 @@
 ghost use Rattle.std.specs.Prelude.{◌≡◌, ◌<◌, ◌≤◌};
 ghost use Rattle.duplex.specs.Ends.{IsSameLeft, IsSameRight};
 
-use super::*;
+use duplex::*;
 use fission_ids::OutOfMemory;
 use std::alloc::Global;
 use std::test::Fail;

@@ -1,4 +1,4 @@
-use super::*;
+use field_table::*;
 use fission_ids::{Duplicate, Text};
 use serde_json::Value as Json;
 use std::alloc::{AllocError, Global};
@@ -47,7 +47,7 @@ fn table_of_fields(rt: HostRuntime) {
 }
 
 #[test]
-#[tactic(auto, unfolding(crate::specs::Field::row))]
+#[tactic(auto, unfolding(field_table::specs::Field::row))]
 fn tables(rt: HostRuntime) -> Result<(), Fail> {
     let word = Value::Words(Text::of(rt.alloc(), "w")?);
     let mut fields = Fields::initial();

@@ -1,7 +1,7 @@
-use super::*;
 use field_table::{Field, FieldSet, Fields, Value};
 use fission_ids::{Duplicate, Text};
 use std::test::Fail;
+use transaction::*;
 
 #[test]
 #[tactic(auto, unfolding(field_table::specs::Field::row))]

@@ -1,8 +1,8 @@
 ghost use Rattle.std.specs.Prelude.{◌≡◌};
 ghost use Rattle.field_rules.specs.Bounds.{range, verdict_within};
 
-use super::*;
 use Verdict::{Allow, Deny, Revert};
+use field_rules::*;
 use field_table::{Field, Fields, Value, Verdict};
 use fission_ids::{ContextId, ProcId};
 

@@ -1,4 +1,4 @@
-use super::*;
+use context_store::*;
 use field_table::{Field, FieldSet, Fields, Value};
 use fission_ids::{ContextId, Duplicate, Epoch, OutOfMemory};
 use std::alloc::Global;

@@ -1,4 +1,4 @@
-use super::*;
+use fission_ids::*;
 use std::alloc::Global;
 use std::test::Fail;
 

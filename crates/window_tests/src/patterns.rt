@@ -1,7 +1,7 @@
 ghost use Rattle.std.specs.Prelude.{◌<◌, ◌^◌, length};
 
-use super::*;
 use fission_ids::Duplicate;
+use match_pattern::*;
 use std::alloc::Global;
 use std::test::Fail;
 use url::Url;

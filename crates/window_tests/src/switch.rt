@@ -1,7 +1,7 @@
 ghost use Rattle.std.specs.Prelude.{◌≡◌, length, IfOk};
 
-use super::*;
 use fission_ids::{OutOfMemory, ProcId, Text};
+use process_switch::*;
 use std::alloc::Global;
 use std::test::Fail;
 use url::Url;

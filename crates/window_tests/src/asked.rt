@@ -1,5 +1,5 @@
-use super::*;
 use fission_ids::{Duplicate, OutOfMemory, Outcome, QueryId, Text, WindowId};
+use queries::*;
 use std::alloc::Global;
 use std::test::Fail;
 

@@ -1,7 +1,7 @@
-use super::*;
 use field_table::{Field, FieldSet, Value};
 use fission_ids::{AnyId, ContextId, Epoch, GroupId, OutOfMemory, ProcId, Seq, Text, WindowId};
 use journal::Step;
+use report_words::*;
 use std::alloc::Global;
 use std::test::Fail;
 use wire_msgs::{

@@ -1,4 +1,4 @@
-use super::*;
+use context_group::*;
 use fission_ids::{ContextId, Duplicate, GroupId, ProcId, ProcSet};
 use std::test::Fail;
 

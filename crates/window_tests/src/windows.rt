@@ -1,8 +1,8 @@
-use super::*;
 use fission_ids::{ContextId, Duplicate, WindowId};
 use std::alloc::Global;
 use std::test::Fail;
 use url::Url;
+use window_global::*;
 
 fn window(serial: u32) -> WindowId {
     WindowId { creator: 1, serial }

@@ -1,5 +1,5 @@
 use Rattle.duplex.specs.Ends.{IsSameRight}
-use Rattle.duplex.proofs.tests.fill.Given as goal
+use Rattle.store_tests.proofs.lanes.fill.Given as goal
 
 abbrev pub invariant-loop-call : goal.invariant-loop-call
 invariant-loop-call l = IsSameRight l.initial.right l.right

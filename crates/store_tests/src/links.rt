@@ -1,4 +1,4 @@
-use super::*;
+use channels::*;
 use std::test::Fail;
 
 #[test]

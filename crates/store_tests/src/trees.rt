@@ -1,4 +1,4 @@
-use super::*;
+use context_tree::*;
 use fission_ids::{ContextId, Duplicate};
 use std::alloc::Global;
 use std::test::Fail;

@@ -1,6 +1,6 @@
 ghost use Rattle.std.specs.Prelude.{◌<◌, ◌^◌, length};
 
-use super::*;
+use actor_registry::*;
 use fission_ids::{Duplicate, Seq, Text, Why};
 use match_pattern::Pattern;
 use std::alloc::Global;
